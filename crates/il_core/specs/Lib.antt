@@ -1,0 +1,13 @@
+pub mod Name
+pub mod Tree
+pub mod Statement
+pub mod Expression
+pub mod Procedure
+pub mod Evaluation
+pub mod Machine
+pub mod Run
+pub mod Bounds
+pub mod Kind
+pub mod Checked
+pub mod LineGraph
+pub mod formers
