@@ -1,0 +1,5 @@
+pub mod Fronts
+pub mod Steps
+pub mod Cuts
+pub mod Excess
+pub mod Readings
