@@ -1,0 +1,12 @@
+pub mod ExpressionSteps
+pub mod ExpressionRead
+pub mod ExpressionWritten
+pub mod ExpressionExact
+pub mod Enumeration
+pub mod SpeltIsRead
+pub mod ReadIsSpelt
+pub mod StatementRead
+pub mod Piece
+pub mod ReadSoFar
+pub mod Ordering
+pub mod OneAnswer

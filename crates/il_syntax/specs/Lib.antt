@@ -1,0 +1,7 @@
+pub mod Expression
+pub mod Form
+pub mod Order
+pub mod Parse
+pub mod ExpressionReading
+pub mod FormReading
+pub mod StatementReading
