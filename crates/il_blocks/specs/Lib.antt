@@ -1,0 +1,5 @@
+pub mod Block
+pub mod BlockStack
+pub mod BlockLabel
+pub mod BlockFault
+pub mod BlockLink

@@ -1,0 +1,156 @@
+ghost use Rattle.std.specs.Prelude.{◌≡◌, ◌||◌, map, reverse, Some, None, IfOk, OnOk, if◌then◌else◌};
+ghost use Rattle.il_core.specs.Statement.{statement_of, placed};
+ghost use Rattle.il_blocks.specs.Block.{opened_by, closed_by, fits, is_round, leaves, IsUnmatched, IsFirst};
+ghost use Rattle.il_blocks.specs.BlockStack.{in_loop, left, entered, moved};
+
+use il_core::{Form, NoMemory, Stmt};
+use std::alloc::Global;
+
+/// What opened a block.
+#[derive(Clone, Copy, Debug, PartialEq, Eq)]
+pub(crate) enum Kind {
+    /// PROC.
+    Procedure,
+    /// IF.
+    Then,
+    /// ELSE.
+    Otherwise,
+    /// LOOP.
+    Round,
+}
+
+/// What closes a block.
+#[derive(Clone, Copy, Debug, PartialEq, Eq)]
+pub(crate) enum Closer {
+    /// ELSE.
+    ByElse,
+    /// ENDIF.
+    ByEndIf,
+    /// ENDLOOP.
+    ByEndLoop,
+    /// ENDPROC.
+    ByEndProc,
+}
+
+/// A block that is open, and whether it is a LOOP or stands in one.
+#[derive(Clone, Copy, Debug, PartialEq, Eq)]
+pub(crate) struct OpenBlock {
+    kind: Kind,
+    in_loop: bool,
+}
+
+/// The block that a statement opens.
+fn opened_by(form: &Form) -> Option<Kind>
+    ensures { result ≡ opened_by (statement_of form.now) }
+{
+    match form {
+        Form::Proc(_) => Some(Kind::Procedure),
+        Form::If(_) => Some(Kind::Then),
+        Form::Else => Some(Kind::Otherwise),
+        Form::Loop => Some(Kind::Round),
+        _ => None,
+    }
+}
+
+/// How a statement closes a block.
+fn closed_by(form: &Form) -> Option<Closer>
+    ensures { result ≡ closed_by (statement_of form.now) }
+{
+    match form {
+        Form::Else => Some(Closer::ByElse),
+        Form::EndIf => Some(Closer::ByEndIf),
+        Form::EndLoop => Some(Closer::ByEndLoop),
+        Form::EndProc => Some(Closer::ByEndProc),
+        _ => None,
+    }
+}
+
+/// Whether a statement leaves a LOOP.
+fn leaves(form: &Form) -> bool
+    ensures { result ≡ leaves (statement_of form.now) }
+{
+    matches!(form, Form::Exit | Form::ExitWhen(_))
+}
+
+/// Whether a closer fits what opened the block.
+fn fits(closer: Closer, kind: Kind) -> bool
+    ensures { result ≡ fits closer kind }
+{
+    match (closer, kind) {
+        (Closer::ByElse, Kind::Then) => true,
+        (Closer::ByEndIf, Kind::Then) => true,
+        (Closer::ByEndIf, Kind::Otherwise) => true,
+        (Closer::ByEndLoop, Kind::Round) => true,
+        (Closer::ByEndProc, Kind::Procedure) => true,
+        _ => false,
+    }
+}
+
+fn is_round(kind: Kind) -> bool
+    ensures { result ≡ is_round kind }
+{
+    kind == Kind::Round
+}
+
+/// Whether the innermost of the open blocks is a LOOP or stands in one.
+fn in_loop(blocks: &[OpenBlock]) -> bool
+    ensures { result ≡ in_loop (reverse blocks.now) }
+{
+    match blocks.last() {
+        Some(top) => top.in_loop,
+        None => false,
+    }
+}
+
+/// Closes the innermost of the open blocks, where there is a closer; whether it fits.
+fn close(blocks: &mut Vec<OpenBlock>, closer: Option<Closer>) -> bool
+    ensures { left closer (reverse blocks.old.items) ≡ (if result then Some (reverse blocks.new.items) else None) }
+{
+    let Some(closer) = closer else {
+        return true;
+    };
+    match blocks.pop() {
+        Some(top) => fits(closer, top.kind),
+        None => false,
+    }
+}
+
+/// Opens a block inside the others, where there is one to open.
+fn enter(blocks: &mut Vec<OpenBlock>, kind: Option<Kind>) -> Result<(), NoMemory>
+    ensures { OnOk result (reverse blocks.new.items ≡ entered kind (reverse blocks.old.items)) }
+{
+    let Some(kind) = kind else {
+        return Ok(());
+    };
+    let in_loop = is_round(kind) || in_loop(blocks.as_slice());
+    blocks.push(OpenBlock { kind, in_loop })?;
+    Ok(())
+}
+
+/// Goes past a statement; whether it is matched.
+fn pass(blocks: &mut Vec<OpenBlock>, form: &Form) -> Result<bool, NoMemory>
+    ensures { IfOk result (λ good. moved (statement_of form.now) (reverse blocks.old.items) ≡ (if good then Some (reverse blocks.new.items) else None)) }
+{
+    if leaves(form) && !in_loop(blocks.as_slice()) {
+        return Ok(false);
+    }
+    if !close(blocks, closed_by(form)) {
+        return Ok(false);
+    }
+    enter(blocks, opened_by(form))?;
+    Ok(true)
+}
+
+/// The number of the first statement that closes no fitting innermost block, or that is an EXIT in no LOOP. It takes time
+/// linear in the statements.
+pub fn first_unmatched(alloc: Global, stmts: &[Stmt]) -> Result<Option<usize>, NoMemory>
+    ensures { IfOk result (λ first. IsFirst (IsUnmatched (map placed stmts.now)) first) }
+{
+    let mut blocks = Vec::new(alloc);
+    for (i, stmt) in stmts.iter().enumerate() {
+        if !pass(&mut blocks, &stmt.form)? {
+            return Ok(Some(i));
+        }
+    }
+    Ok(None)
+}

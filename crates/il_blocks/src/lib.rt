@@ -1,0 +1,12 @@
+//! Blocks and labels of the statements of a text: whether each ELSE, ENDIF, ENDLOOP and ENDPROC closes the innermost open
+//! block, each EXIT stands in a loop, each label of a procedure stands once and each GOTO names one; or the first statement
+//! at which that fails. One pass keeps the stack of the open blocks, another one a hash table of the labels, so the time is
+//! linear in the statements.
+#![tactic(auto)]
+
+mod block;
+mod block_fault;
+mod block_label;
+
+pub use block::first_unmatched;
+pub use block_fault::{check_blocks, one_links, one_match};
