@@ -1,0 +1,13 @@
+use Rattle.std.proofs.Common.{◌≡◌, ℕ, ◌<◌, take}
+use Rattle.std.specs.Prelude.{map, None}
+use Rattle.il_core.specs.Statement.{placed}
+use Rattle.il_types.specs.CountsBelow.{IsBehind}
+use Rattle.il_types.specs.Rules.{counts_at, broken, at_stmt}
+use Rattle.il_types.proofs.rules.first_broken.Given as goal
+
+abbrev pub invariant-loop-i : goal.invariant-loop-i
+invariant-loop-i l = record {
+  counts : l.counts ≡ counts_at (map placed l.stmts) l.i;
+  behind : IsBehind l.counts l.i;
+  before : (k : ℕ) → k < l.i → at_stmt (broken l.rule l.names (map placed l.stmts)) (map placed l.stmts) k ≡ None;
+}

@@ -1,0 +1,10 @@
+/// The kind of a value.
+#[derive(Clone, Copy, Debug, PartialEq, Eq)]
+pub(crate) enum Kind {
+    /// A whole number.
+    Whole,
+    /// A truth value.
+    Truth,
+    /// A value of the enumeration that the statement of this number declares.
+    Enumeration(usize),
+}

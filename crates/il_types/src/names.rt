@@ -1,0 +1,213 @@
+ghost use Rattle.std.specs.Prelude.{◌≡◌, ◌<◌, ◌++◌, ◌∷◌, [], not, map, Some, None, MatchOption, IfOk, OnErr, if◌then◌else◌};
+ghost use Rattle.std.specs.Map.{lookup};
+ghost use Rattle.il_core.specs.Statement.{statement_of, placed};
+ghost use Rattle.il_types.specs.Names.{same_key, is_taken, earlier, of_procedure, in_force, declaration, setting, said, first_taken, entries_from, entries, IsDeclared};
+ghost use Rattle.il_types.specs.Rules.{Declares};
+
+use crate::counts::{counts_behind, no_counts};
+use il_core::{Code, Form, Name, NoMemory, Refusal, Stmt, TextEnd};
+use indexmap::IndexMap;
+use std::alloc::Global;
+use std::marker::Model;
+
+/// The declarations of a text in their order: under scope and name the number of the statement, and which of its names it is.
+#[derive(Debug, Drop)]
+pub(crate) struct Names {
+    table: IndexMap<(usize, Name), (usize, usize)>,
+}
+
+impl Model for Names {
+    ghost use Rattle.il_types.specs.Names.{Table};
+
+    ghost Value = { Table };
+
+    ghost view = { λ n. n.table.entries };
+}
+
+impl Names {
+    pub(crate) fn new(alloc: Global) -> Names
+        ensures { result ≡ [] }
+    {
+        Names {
+            table: IndexMap::new(alloc),
+        }
+    }
+
+    fn get(&self, scope: usize, name: &Name) -> Option<(usize, usize)>
+        ensures { result ≡ lookup (same_key (scope, name.now)) self.now }
+    {
+        self.table.get(&(scope, *name)).copied()
+    }
+
+    /// Whether a name repeats one of its scope or of the whole text.
+    pub(crate) fn is_taken(&self, scope: usize, name: &Name) -> bool
+        ensures { result ≡ is_taken self.now (scope, name.now) }
+    {
+        self.get(0, name).is_some() || self.get(scope, name).is_some()
+    }
+
+    fn of_procedure(&self, owner: usize, name: &Name) -> Option<(usize, usize)>
+        ensures { result ≡ of_procedure self.now owner name.now }
+    {
+        if owner == 0 {
+            None
+        } else {
+            self.get(owner, name)
+        }
+    }
+
+    fn earlier(&self, at: usize, name: &Name) -> Option<(usize, usize)>
+        ensures { result ≡ earlier at (lookup (same_key (0, name.now)) self.now) }
+    {
+        match self.get(0, name) {
+            None => None,
+            Some(spot) => if spot.0 < at { Some(spot) } else { None },
+        }
+    }
+
+    /// The declaration of a name that is in force at statement `at`, in procedure `owner`.
+    pub(crate) fn in_force(
+        &self,
+        stmts: &[Stmt],
+        owner: usize,
+        at: usize,
+        name: &Name,
+    ) -> Option<(usize, usize)>
+        ensures { result ≡ in_force (setting self.now (map placed stmts.now) owner at) name.now }
+    {
+        match self.of_procedure(owner, name) {
+            Some(spot) => Some(spot),
+            None => self.earlier(at, name),
+        }
+    }
+
+    /// Puts a declaration of a name behind the others, where the name is not taken; answers whether it was.
+    fn declare(
+        &mut self,
+        scope: usize,
+        name: &Name,
+        at: usize,
+        index: usize,
+    ) -> Result<bool, NoMemory>
+        ensures taken { IfOk result (λ taken. taken ≡ is_taken self.old (scope, name.now)) }
+        ensures names { IfOk result (λ taken. self.new ≡ (if taken then self.old else self.old ++ ((scope, name.now), (at, index)) ∷ [])) }
+    {
+        if self.is_taken(scope, name) {
+            return Ok(true);
+        }
+        self.table.insert((scope, *name), (at, index))?;
+        Ok(false)
+    }
+
+    /// Declares the one name of a statement.
+    fn declare_one(
+        &mut self,
+        scope: usize,
+        name: &Name,
+        at: usize,
+    ) -> Result<Option<Name>, NoMemory>
+        ensures { IfOk result (λ o. IsDeclared self.old self.new (entries_from scope at 0 (name.now ∷ [])) o) }
+    {
+        let is_taken = self.declare(scope, name, at, 0)?;
+        if is_taken { Ok(Some(*name)) } else { Ok(None) }
+    }
+
+    /// Declares the values of an enumeration.
+    fn declare_values(&mut self, values: &[Name], at: usize) -> Result<Option<Name>, NoMemory>
+        ensures { IfOk result (λ o. IsDeclared self.old self.new (entries_from 0 at 1 values.now) o) }
+    {
+        for (k, value) in values.iter().enumerate() {
+            let is_taken = self.declare(0, value, at, k + 1)?;
+            if is_taken {
+                return Ok(Some(*value));
+            }
+        }
+        Ok(None)
+    }
+
+    /// Declares an enumeration and its values.
+    fn declare_enumeration(
+        &mut self,
+        name: &Name,
+        values: &[Name],
+        at: usize,
+    ) -> Result<Option<Name>, NoMemory>
+        ensures { IfOk result (λ o. IsDeclared self.old self.new (entries_from 0 at 0 (name.now ∷ values.now)) o) }
+    {
+        let is_taken = self.declare(0, name, at, 0)?;
+        if is_taken {
+            Ok(Some(*name))
+        } else {
+            self.declare_values(values, at)
+        }
+    }
+
+    /// Declares the names of statement `at`, in procedure `owner`; answers the first that is taken.
+    fn declare_all_of(
+        &mut self,
+        owner: usize,
+        at: usize,
+        form: &Form,
+    ) -> Result<Option<Name>, NoMemory>
+        ensures { IfOk result (λ o. IsDeclared self.old self.new (entries owner at (statement_of form.now)) o) }
+    {
+        match form {
+            Form::Const(name, _) => self.declare_one(0, name, at),
+            Form::RangeType(name, _, _) => self.declare_one(0, name, at),
+            Form::WrapType(name, _, _) => self.declare_one(0, name, at),
+            Form::EnumType(name, values) => self.declare_enumeration(name, values.as_slice(), at),
+            Form::Proc(name) => self.declare_one(0, name, at),
+            Form::Variable(_, name, _) => self.declare_one(owner, name, at),
+            _ => Ok(None),
+        }
+    }
+}
+
+/// The declarations of a text, or the first statement that declares a name that is taken.
+pub(crate) fn declare_all(alloc: Global, stmts: &[Stmt]) -> Result<Names, TextEnd>
+    ensures { Declares (map placed stmts.now) result }
+{
+    let mut names = Names::new(alloc);
+    let mut counts = no_counts();
+    for (i, stmt) in stmts.iter().enumerate() {
+        let taken = names.declare_all_of(counts.procedures, i, &stmt.form)?;
+        match taken {
+            None => {}
+            Some(name) => {
+                return Err(TextEnd::Refused(Refusal {
+                    code: Code::Twice,
+                    place: stmt.place,
+                    name: Some(name),
+                }));
+            }
+        }
+        counts = counts_behind(counts, i, &stmt.form);
+    }
+    Ok(names)
+}
+
+/// A statement that is there, and what it says.
+fn said(stmts: &[Stmt], spot: (usize, usize)) -> Option<((usize, usize), &Form)>
+    ensures { MatchOption result (said (map placed stmts.now) spot ≡ None) (λ d. said (map placed stmts.now) spot ≡ Some (d.0, statement_of d.1.now)) }
+{
+    match stmts.get(spot.0) {
+        None => None,
+        Some(stmt) => Some((spot, &stmt.form)),
+    }
+}
+
+/// The declaration of a name that is in force, with the form that makes it.
+pub(crate) fn declaration<'a>(
+    names: &Names,
+    stmts: &'a [Stmt],
+    owner: usize,
+    at: usize,
+    name: &Name,
+) -> Option<((usize, usize), &'a Form)>
+    ensures { MatchOption result (declaration (setting names.now (map placed stmts.now) owner at) name.now ≡ None) (λ d. declaration (setting names.now (map placed stmts.now) owner at) name.now ≡ Some (d.0, statement_of d.1.now)) }
+{
+    match names.in_force(stmts, owner, at, name) {
+        None => None,
+        Some(spot) => said(stmts, spot),
+    }
+}

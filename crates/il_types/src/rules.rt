@@ -1,0 +1,133 @@
+ghost use Rattle.std.specs.Prelude.{◌≡◌, ◌<◌, ◌+◌, ◌^◌, ◌∷◌, [], map, Some, None};
+ghost use Rattle.il_core.specs.Statement.{statement_of, placed};
+ghost use Rattle.il_types.specs.CountsBelow.{IsBehind};
+ghost use Rattle.il_types.specs.Names.{setting};
+ghost use Rattle.il_types.specs.Rules.{naming, unnamed, unless, fault, refusal_of, broken, IsRefused, Refuses, passes_with};
+
+use crate::counts::{Counts, counts_behind, no_counts, too_many};
+use crate::modes::is_allowed;
+use crate::names::Names;
+use crate::ranges::has_range;
+use crate::typing::is_typed;
+use crate::unknown::unknown;
+use il_core::{Code, Form, Name, Refusal, Stmt};
+
+/// What a statement breaks: the code, with the name that is told.
+#[derive(Clone, Copy, Debug, PartialEq, Eq)]
+pub(crate) struct Found {
+    /// Why.
+    pub code: Code,
+    /// The name at fault.
+    pub name: Option<Name>,
+}
+
+/// The rules for statements whose names are declared once.
+#[derive(Clone, Copy, Debug, PartialEq, Eq)]
+pub(crate) enum Rule {
+    /// Each name that is used is declared.
+    Known,
+    /// Each name and expression is of the kind that is needed.
+    Typed,
+    /// The modes allow each use of a variable.
+    Allowed,
+    /// Each range holds a value.
+    Filled,
+    /// There are not too many procedures, lines and places.
+    Limited,
+}
+
+fn naming(code: Code, name: Name) -> Found
+    ensures { result ≡ naming code name }
+{
+    Found {
+        code,
+        name: Some(name),
+    }
+}
+
+fn unnamed(code: Code) -> Found
+    ensures { result ≡ unnamed code }
+{
+    Found { code, name: None }
+}
+
+fn unless(kept: bool, code: Code) -> Option<Found>
+    ensures { result ≡ unless kept code }
+{
+    if kept { None } else { Some(unnamed(code)) }
+}
+
+/// What statement `at` breaks of a rule.
+fn fault(
+    rule: Rule,
+    names: &Names,
+    stmts: &[Stmt],
+    counts: Counts,
+    at: usize,
+    form: &Form,
+) -> Option<Found>
+    requires behind { IsBehind counts at }
+    requires room { at + 1 < 2 ^ 64 }
+    ensures { result ≡ fault rule (setting names.now (map placed stmts.now) counts.procedures at) counts (statement_of form.now) }
+{
+    let owner = counts.procedures;
+    match rule {
+        Rule::Known => match unknown(names, stmts, owner, at, form) {
+            None => None,
+            Some(name) => Some(naming(Code::Unknown, name)),
+        },
+        Rule::Typed => unless(is_typed(names, stmts, owner, at, form), Code::Typing),
+        Rule::Allowed => unless(is_allowed(names, stmts, owner, at, form), Code::Access),
+        Rule::Filled => unless(has_range(names, stmts, owner, at, form), Code::EmptyRange),
+        Rule::Limited => match too_many(counts_behind(counts, at, form)) {
+            None => None,
+            Some(many) => Some(unnamed(Code::TooMany(many))),
+        },
+    }
+}
+
+fn refusal_of(found: Found, place: usize) -> Refusal
+    ensures { result ≡ refusal_of found place }
+{
+    Refusal {
+        code: found.code,
+        place,
+        name: found.name,
+    }
+}
+
+/// The first statement that breaks a rule.
+fn first_broken(rule: Rule, names: &Names, stmts: &[Stmt]) -> Option<Refusal>
+    ensures { IsRefused (broken rule names.now (map placed stmts.now)) (map placed stmts.now) result }
+{
+    let mut counts = no_counts();
+    for (i, stmt) in stmts.iter().enumerate() {
+        match fault(rule, names, stmts, counts, i, &stmt.form) {
+            None => {}
+            Some(found) => {
+                return Some(refusal_of(found, stmt.place));
+            }
+        }
+        counts = counts_behind(counts, i, &stmt.form);
+    }
+    None
+}
+
+/// The refusal of a text whose names are declared once.
+pub(crate) fn first_of_rules(names: &Names, stmts: &[Stmt]) -> Option<Refusal>
+    ensures { Refuses (passes_with names.now (map placed stmts.now)) (map placed stmts.now) result }
+{
+    if let Some(refusal) = first_broken(Rule::Known, names, stmts) {
+        return Some(refusal);
+    }
+    if let Some(refusal) = first_broken(Rule::Typed, names, stmts) {
+        return Some(refusal);
+    }
+    if let Some(refusal) = first_broken(Rule::Allowed, names, stmts) {
+        return Some(refusal);
+    }
+    if let Some(refusal) = first_broken(Rule::Filled, names, stmts) {
+        return Some(refusal);
+    }
+    first_broken(Rule::Limited, names, stmts)
+}
