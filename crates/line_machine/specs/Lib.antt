@@ -1,0 +1,5 @@
+pub mod Fits
+pub mod Cut
+pub mod Laws
+pub mod Arcs
+pub mod Sample
