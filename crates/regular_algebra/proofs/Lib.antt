@@ -1,0 +1,13 @@
+pub mod Ways
+pub mod Values
+pub mod Tables
+pub mod Passes
+pub mod Theorem
+pub mod Starless
+pub mod Cells
+pub mod Turns
+pub mod Sizes
+pub mod Planned
+pub mod Uses
+pub mod Joins
+pub mod Bits

@@ -1,0 +1,124 @@
+//! Elimination of nodes from a graph, over any algebra: what all paths between two nodes say together.
+//!
+//! From the arcs of a graph and an order of its nodes, `plan` answers the sums, products and stars by which each node is
+//! eliminated in turn (Kleene 1956; Carré 1971), as plain data that depends on the arcs' ends alone. The words of an
+//! answer are exactly the paths from the start to its target. `eliminate` runs a plan over the values of any `Algebra`,
+//! and so joins exactly what some path joins; `BitRelation` is the algebra of relations on few points.
+//!
+//! A plan takes a square of cells over the nodes, which is given up once the plan is made, and for each node that is
+//! eliminated time linear in the nodes for each node that enters it. `eliminate` keeps a value until its last use.
+#![tactic(auto)]
+
+mod algebra;
+mod board;
+mod elimination;
+mod planning;
+mod relation;
+mod steps;
+
+pub use algebra::Algebra;
+pub use elimination::eliminate;
+pub use planning::plan;
+pub use relation::BitRelation;
+pub use steps::{Ends, Entry, Plan, Step};
+
+#[cfg(test)]
+mod tests {
+    use super::*;
+    use std::test::Fail;
+
+    const ARCS: [Ends; 3] = [
+        Ends { tail: 0, head: 1 },
+        Ends { tail: 1, head: 1 },
+        Ends { tail: 1, head: 2 },
+    ];
+
+    #[test]
+    fn a_loop_is_starred(rt: HostRuntime) -> Result<(), Fail> {
+        let whole = plan(rt.alloc(), 3, &ARCS, &[1], 0, &[2])?;
+        assert_eq!(rt;
+            whole.steps.as_slice(),
+            [Step::Star(1), Step::Times(0, 3), Step::Times(4, 2)].as_slice()
+        );
+        assert_eq!(rt; whole.answers.as_slice(), [Some(5)].as_slice());
+        Ok(())
+    }
+
+    #[test]
+    fn without_a_path_there_is_no_answer(rt: HostRuntime) -> Result<(), Fail> {
+        let front = plan(rt.alloc(), 3, &[ARCS[0], ARCS[1]], &[1], 0, &[2])?;
+        assert_eq!(rt; front.steps.as_slice(), [Step::Star(1)].as_slice());
+        assert_eq!(rt; front.answers.as_slice(), [None].as_slice());
+        Ok(())
+    }
+
+    /// The relation that joins one pair of points.
+    fn pair(a: usize, b: usize) -> BitRelation {
+        let mut relation = BitRelation::empty();
+        if a < 66 && b < 66 {
+            relation.set(a, b);
+        }
+        relation
+    }
+
+    #[test]
+    fn paths_join_what_their_arcs_join(rt: HostRuntime) -> Result<(), Fail> {
+        let arcs = [
+            Entry {
+                tail: 0,
+                head: 1,
+                value: pair(7, 7),
+            },
+            Entry {
+                tail: 1,
+                head: 1,
+                value: pair(7, 8),
+            },
+            Entry {
+                tail: 1,
+                head: 2,
+                value: pair(8, 65),
+            },
+        ];
+        let values = eliminate(rt.alloc(), 3, &arcs, &[1], 0, &[2])?;
+        for (a, b, joined) in [
+            (7, 65, true),
+            (7, 7, false),
+            (8, 65, false),
+            (65, 65, false),
+        ] {
+            match values.get(0) {
+                Some(value) => assert_eq!(rt; value.has(a, b), joined, "{a} {b}"),
+                None => assert!(rt; false),
+            }
+        }
+        Ok(())
+    }
+
+    #[test]
+    fn one_point_is_joined_to_itself(rt: HostRuntime) -> Result<(), Fail> {
+        let arcs = [
+            Entry {
+                tail: 0,
+                head: 1,
+                value: pair(0, 0),
+            },
+            Entry {
+                tail: 1,
+                head: 1,
+                value: pair(0, 0),
+            },
+            Entry {
+                tail: 1,
+                head: 2,
+                value: pair(0, 0),
+            },
+        ];
+        let values = eliminate(rt.alloc(), 3, &arcs, &[1], 0, &[2])?;
+        match values.get(0) {
+            Some(value) => assert!(rt; value.has(0, 0)),
+            None => assert!(rt; false),
+        }
+        Ok(())
+    }
+}
