@@ -1,0 +1,5 @@
+pub mod Members
+pub mod PlaceBits
+pub mod LineArcs
+pub mod Spreading
+pub mod Formed
