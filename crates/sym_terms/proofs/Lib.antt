@@ -1,0 +1,7 @@
+pub mod Values
+pub mod Capped
+pub mod Grown
+pub mod Terms
+pub mod Numbered
+pub mod Sharing
+pub mod Memos

@@ -1,0 +1,6 @@
+pub mod Tree
+pub mod Value
+pub mod Substitution
+pub mod Measure
+pub mod Grown
+pub mod Nodes
