@@ -1,0 +1,4 @@
+pub mod Form
+pub mod Order
+pub mod Norm
+pub mod Laws

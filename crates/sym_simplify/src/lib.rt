@@ -1,0 +1,10 @@
+//! Normal terms: a constant and parts in order of their atoms. Terms with the same normal term have the same value in
+//! every state. Here stand their types, their definition by the summands of a term, and the laws that a normal term has
+//! its term's value and that the term's weight bounds its numbers; the calls that make normal terms are to come.
+#![tactic(auto)]
+
+mod laws;
+mod normal;
+
+pub use laws::{normal_terms_keep_values, weights_bound_normal_terms};
+pub use normal::{Atom, Kept, LinearPart, LinearTerm, LitForm, Normal, Part};
