@@ -1,0 +1,138 @@
+//! The text of what the suite answers. [`put_report`] writes the report of a straight procedure, [`put_refusal`] the
+//! one line of a refused text, and [`put_words`] the one line that answers words that are not understood. Each text is
+//! a definition of its own, a list of bytes made of pieces: fixed words, names, and numbers by their decimal text. A
+//! call sends the pieces to a sink one after the other. It takes no memory, costs time linear in the text, leaves what
+//! is settled as it was, and after a fault of the sink has written a prefix of the text.
+#![tactic(auto)]
+
+mod pieces;
+mod refusal;
+mod report;
+
+pub use refusal::{put_refusal, put_words};
+pub use report::{Report, put_report};
+
+#[cfg(test)]
+mod tests {
+    use super::*;
+    use il_core::{Code, List, Many, Mode, Name, Place, Refusal};
+    use il_edge::SureSink;
+    use std::test::Fail;
+
+    fn place(name: Name, mode: Mode, old: bool) -> Place {
+        Place {
+            name,
+            mode,
+            old,
+            flag: false,
+            wrap: false,
+            least: 0,
+            greatest: 9,
+        }
+    }
+
+    fn refusal(code: Code, place: usize, name: Option<Name>) -> Refusal {
+        Refusal { code, place, name }
+    }
+
+    #[test]
+    fn writes_the_refusals(rt: HostRuntime) -> Result<(), Fail> {
+        let cases: [(Refusal, &[u8]); 17] = [
+            (
+                refusal(Code::TooLong, 1_048_576, None),
+                b"malpas: E01 at byte 1048576: text too long\n",
+            ),
+            (
+                refusal(Code::NotAscii, 1, None),
+                b"malpas: E02 at byte 1: byte is not ASCII\n",
+            ),
+            (
+                refusal(Code::Lexical, 110, None),
+                b"malpas: E03 at byte 110: no such token\n",
+            ),
+            (
+                refusal(Code::Number, 19, None),
+                b"malpas: E04 at byte 19: number too large\n",
+            ),
+            (
+                refusal(Code::Syntax, 124, None),
+                b"malpas: E05 at byte 124: statement has no form\n",
+            ),
+            (
+                refusal(Code::Order, 0, None),
+                b"malpas: E06 at byte 0: statement out of order\n",
+            ),
+            (
+                refusal(Code::Unmatched, 108, None),
+                b"malpas: E07 at byte 108: block or label unmatched\n",
+            ),
+            (
+                refusal(Code::Twice, 69, Name::new(b"x")),
+                b"malpas: E08 at byte 69: name declared twice: x\n",
+            ),
+            (
+                refusal(Code::Unknown, 108, Name::new(b"x")),
+                b"malpas: E09 at byte 108: name unknown: x\n",
+            ),
+            (
+                refusal(Code::Typing, 7, Name::new(b"x")),
+                b"malpas: E10 at byte 7: wrong type\n",
+            ),
+            (
+                refusal(Code::Access, 8, None),
+                b"malpas: E11 at byte 8: wrong mode\n",
+            ),
+            (
+                refusal(Code::EmptyRange, 69, None),
+                b"malpas: E12 at byte 69: range is empty\n",
+            ),
+            (
+                refusal(Code::Wide, 108, None),
+                b"malpas: E13 at byte 108: expression too wide\n",
+            ),
+            (
+                refusal(Code::TooMany(Many::Procedures), 9, None),
+                b"malpas: E14 at byte 9: too many procedures\n",
+            ),
+            (
+                refusal(Code::TooMany(Many::Lines), 6108, None),
+                b"malpas: E14 at byte 6108: too many lines\n",
+            ),
+            (
+                refusal(Code::TooMany(Many::Places), 9, None),
+                b"malpas: E14 at byte 9: too many places\n",
+            ),
+            (
+                refusal(Code::NotBuilt, 0, None),
+                b"malpas: E15 at byte 0: not built yet\n",
+            ),
+        ];
+        for (refusal, line) in cases.iter() {
+            let mut sink = SureSink::new(rt.alloc(), 100)?;
+            put_refusal(refusal, &mut sink)?;
+            assert_eq!(rt; sink.held(), *line);
+        }
+        Ok(())
+    }
+
+    #[test]
+    fn writes_a_report(rt: HostRuntime) -> Result<(), Fail> {
+        let a = place(Name::new(b"a").ok_or("name")?, Mode::Input, false);
+        let b = place(Name::new(b"b").ok_or("name")?, Mode::InOut, false);
+        let old = place(Name::new(b"b").ok_or("name")?, Mode::InOut, true);
+        let report = Report {
+            title: Name::new(b"copy").ok_or("name")?,
+            name: Name::new(b"p").ok_or("name")?,
+            places: List::from_vec(Vec::from_slice(rt.alloc(), &[a, b, old])?),
+            lines: 12,
+            row: List::from_vec(Vec::from_slice(rt.alloc(), &[0, 2, 2])?),
+        };
+        let mut sink = SureSink::new(rt.alloc(), 1000)?;
+        put_report(&report, &mut sink)?;
+        put_words(&mut sink)?;
+        let text =
+            b"MALPAS PROFILE 1\nTITLE copy\nPROCEDURE p LINES 12\nSEMANTIC\nREGION L0\nROW 1 PATH -\nSTOP END\nb := OLD b\nSTATUS 0\nmalpas: words not understood\n";
+        assert_eq!(rt; sink.held(), text.as_slice());
+        Ok(())
+    }
+}
