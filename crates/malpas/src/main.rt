@@ -1,0 +1,31 @@
+//! The program: it reads a text from standard input and writes its report or its refusal to standard output. The top
+//! call does all of it over any source and sink, so that its contract can name the bytes; `main` hands it the standard
+//! ones and ends with its status. The cost is that of reading, accepting and writing, each linear in its bytes.
+#![tactic(auto)]
+
+mod answer;
+#[cfg(test)]
+mod tests;
+mod top;
+
+use il_edge::{StdSink, StdSource};
+use std::env;
+use std::io::ErrorKind;
+use std::process::ExitCode;
+use top::malpas;
+
+fn main(rt: HostRuntime) -> ExitCode {
+    let all = match env::args(&rt) {
+        Ok(all) => all,
+        Err(error) if error.kind() == ErrorKind::OutOfMemory => return ExitCode::from(5),
+        Err(_) => return ExitCode::from(7),
+    };
+    let words: Vec<String> = match all.skip(1).collect(rt.alloc()) {
+        Ok(words) => words,
+        Err(_) => return ExitCode::from(5),
+    };
+    let mut source = StdSource::new(rt.stdin());
+    let mut sink = StdSink::new(rt.stdout());
+    let outcome = malpas(rt.alloc(), words.as_slice(), &mut source, &mut sink);
+    ExitCode::from(outcome.status)
+}
