@@ -1,0 +1,7 @@
+//! The control structure of a procedure: which lines are unreachable or stuck, its loops, and whether each cycle has one
+//! entry, as the graph is then reducible (Allen and Cocke, 1976).
+#![tactic(auto)]
+
+mod control;
+
+pub use control::{Control, Entries, LoopInfo, Shape};

@@ -1,0 +1,6 @@
+//! Two paths from a line to a set of lines that share that line alone.
+#![tactic(auto)]
+
+mod pair;
+
+pub use pair::Pair;

@@ -1,0 +1,8 @@
+//! The reduction of a graph by intervals: an interval is a part of the graph that is entered at its head alone, and the
+//! next level has one node for each interval (Allen and Cocke, A program data flow analysis procedure, 1976). It ends in
+//! one node exactly where no cycle can be entered first at two nodes.
+#![tactic(auto)]
+
+mod interval;
+
+pub use interval::{Derivation, Interval};
