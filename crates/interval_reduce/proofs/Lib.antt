@@ -1,0 +1,3 @@
+pub mod ReductionLists
+pub mod ReductionWalks
+pub mod Dominance
