@@ -1,3 +1,5 @@
 pub mod ReductionLists
 pub mod ReductionWalks
 pub mod Dominance
+pub mod ReductionUp
+pub mod ReductionDown
