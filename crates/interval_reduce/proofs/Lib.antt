@@ -3,3 +3,4 @@ pub mod ReductionWalks
 pub mod Dominance
 pub mod ReductionUp
 pub mod ReductionDown
+pub mod Owner

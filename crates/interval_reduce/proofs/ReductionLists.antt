@@ -7,6 +7,7 @@ use Rattle.std.proofs.lemmas.Map.Steps.{length-le_from_distinct_below}
 use Rattle.il_core.specs.LineGraph.{IsIn}
 use Rattle.flow_graph.specs.Search.{AreBelow}
 use Rattle.flow_graph.specs.Reached.{Differ}
+use Rattle.flow_graph.proofs.Members.{IsIn-append_cases}
 
 -- two numbers are equal or not
 pub same_or_not : (a b : ℕ) → (a ≡ b) ⊎ (a ≢ b)
@@ -29,9 +30,23 @@ unfolding IsDistinct
 distinct_from [] d = tt
 distinct_from (x ∷ xs) d = (apart x xs d.0, distinct_from xs d.1)
 
-member_from : (xs : List ℕ) (x : ℕ) → list_any (eqb x) xs ≡ true → IsIn xs x
+pub member_from : (xs : List ℕ) (x : ℕ) → list_any (eqb x) xs ≡ true → IsIn xs x
 member_from [] x h = absurd (cc)
 member_from (y ∷ ys) x h = elim (eqb_tells x y) [ inl e ↦ inl (sym e.1) | inr o ↦ inr (member_from ys x (rw o.0 at h)) ]
+
+pub any_from : (xs : List ℕ) (x : ℕ) → IsIn xs x → list_any (eqb x) xs ≡ true
+any_from [] x h = absurd h
+any_from (y ∷ ys) x h = elim (eqb_tells x y) [
+  | inl e ↦ rw e.0
+  | inr o ↦ rw o.0 (elim h [ inl e ↦ absurd (o.1 (sym e)) | inr i ↦ any_from ys x i ])
+]
+
+-- two lists without a common member differ as one
+pub Differ-append : (xs ys : List ℕ) → Differ xs → Differ ys → ((k : ℕ) → IsIn xs k → IsIn ys k → ⊥) → Differ (xs ++ ys)
+Differ-append [] ys d e n = e
+Differ-append (x ∷ xs) ys d e n = (
+  (λ h. elim (IsIn-append_cases xs ys x h) [ inl i ↦ d.0 i | inr j ↦ n x (inl refl) j ]),
+  Differ-append xs ys d.1 e (λ k i j. n k (inr i) j))
 
 -- numbers below a limit that differ are no more than the limit
 pub length_below : (xs : List ℕ) (n : ℕ) → Differ xs → AreBelow n xs → length xs ≤ n
