@@ -4,3 +4,5 @@ pub mod Dominance
 pub mod ReductionUp
 pub mod ReductionDown
 pub mod Owner
+pub mod OwnerLevel
+pub mod Reduction
