@@ -6,3 +6,4 @@ pub mod ReductionDown
 pub mod Owner
 pub mod OwnerLevel
 pub mod Reduction
+pub mod Order

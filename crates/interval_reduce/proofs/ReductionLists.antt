@@ -7,7 +7,7 @@ use Rattle.std.proofs.lemmas.Map.Steps.{length-le_from_distinct_below}
 use Rattle.il_core.specs.LineGraph.{IsIn}
 use Rattle.flow_graph.specs.Search.{AreBelow}
 use Rattle.flow_graph.specs.Reached.{Differ}
-use Rattle.flow_graph.proofs.Members.{IsIn-append_cases}
+use Rattle.flow_graph.proofs.Members.{IsIn-append_left, IsIn-append_right, IsIn-append_cases}
 
 -- two numbers are equal or not
 pub same_or_not : (a b : ℕ) → (a ≡ b) ⊎ (a ≢ b)
@@ -47,6 +47,14 @@ Differ-append [] ys d e n = e
 Differ-append (x ∷ xs) ys d e n = (
   (λ h. elim (IsIn-append_cases xs ys x h) [ inl i ↦ d.0 i | inr j ↦ n x (inl refl) j ]),
   Differ-append xs ys d.1 e (λ k i j. n k (inr i) j))
+
+-- and the other way round
+pub Differ-parts : (xs ys : List ℕ) → Differ (xs ++ ys) → Differ xs × Differ ys × ((k : ℕ) → IsIn xs k → IsIn ys k → ⊥)
+Differ-parts [] ys d = (tt, d, λ k h. absurd h)
+Differ-parts (x ∷ xs) ys d =
+    let t = Differ-parts xs ys d.1 in
+    (((λ h. d.0 (IsIn-append_left xs ys x h)), t.0), t.1,
+      λ k h j. elim h [ inl e ↦ d.0 (IsIn-append_right xs ys x (rw e j)) | inr i ↦ t.2 k i j ])
 
 -- numbers below a limit that differ are no more than the limit
 pub length_below : (xs : List ℕ) (n : ℕ) → Differ xs → AreBelow n xs → length xs ≤ n
