@@ -1,11 +1,11 @@
 -- In a graph without a twice entered cycle some node but the first has exactly one predecessor, which governs it: dominance in
 -- place of a smallest loop.
-use Rattle.std.proofs.Common.{◌≡◌, ◌≢◌, ◌⊎◌, inl, inr, refl, sym, ◌∙◌, ℕ, ◌<◌, List, [], ◌∷◌, ◌++◌, subst}
+use Rattle.std.proofs.Common.{◌≡◌, ◌≢◌, inl, inr, refl, sym, ◌∙◌, ℕ, ◌<◌, List, [], ◌∷◌, ◌++◌, subst}
 use Rattle.il_core.specs.LineGraph.{IsIn}
 use Rattle.flow_graph.specs.Search.{IsWalk, Reaches, AreBelow}
 use Rattle.flow_graph.specs.Meeting.{Meets, IsOnEvery}
 use Rattle.flow_graph.specs.Reached.{Differ}
-use Rattle.control_flow.specs.Cycle.{HasTwiceEntered, IsReducible}
+use Rattle.control_flow.specs.Cycle.{IsReducible}
 use Rattle.flow_graph.proofs.Members.{IsIn-push_cases}
 use Rattle.flow_graph.proofs.Spreading.{walk_on}
 use Rattle.interval_reduce.proofs.ReductionLists.{same_or_not, is_in_or_not, drained}

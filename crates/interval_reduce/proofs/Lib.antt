@@ -7,3 +7,4 @@ pub mod Owner
 pub mod OwnerLevel
 pub mod Reduction
 pub mod Order
+pub mod ReductionGraph

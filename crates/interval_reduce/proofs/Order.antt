@@ -1,5 +1,5 @@
 -- The order of a graph whose levels end with one interval: each node but the first is taken in exactly one level.
-use Rattle.std.proofs.Common.{◌≡◌, ◌≢◌, ◌⊎◌, inl, inr, refl, sym, ◌∙◌, ap, subst, ℕ, ◌+◌, Bool, true, false, List, [], ◌∷◌, ◌++◌, length, arith}
+use Rattle.std.proofs.Common.{◌≡◌, ◌≢◌, ◌⊎◌, inl, inr, refl, sym, ◌∙◌, subst, ℕ, List, [], ◌∷◌, ◌++◌, length, arith}
 use Rattle.std.specs.Prelude.{◌↔◌, drop}
 use Rattle.std.specs.List.{flat_map}
 use Rattle.il_core.specs.LineGraph.{IsIn}
@@ -8,9 +8,9 @@ use Rattle.flow_graph.proofs.Members.{IsIn-append_left, IsIn-append_right, IsIn-
 use Rattle.interval_reduce.specs.declared.interval.Interval.{Interval}
 use Rattle.interval_reduce.specs.Level.{IsLevel, AreLevels, last_level, heads_of, NextArc}
 use Rattle.interval_reduce.specs.Derivation.{taken}
-use Rattle.interval_reduce.proofs.ReductionLists.{same_or_not, is_in_or_not, Differ-append, Differ-parts}
+use Rattle.interval_reduce.proofs.ReductionLists.{Differ-append, Differ-parts}
 use Rattle.interval_reduce.proofs.Dominance.{Good}
-use Rattle.interval_reduce.proofs.Owner.{nodes_of, AreIntervals, intervals_of, Shared}
+use Rattle.interval_reduce.proofs.Owner.{nodes_of, AreIntervals, intervals_of}
 use Rattle.interval_reduce.proofs.OwnerLevel.{covered, starts, shared, good_next}
 
 -- what the intervals of a level take

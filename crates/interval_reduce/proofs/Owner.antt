@@ -1,15 +1,15 @@
 -- The nodes of a level: each is in exactly one interval, which its head alone is entered from outside.
-use Rattle.std.proofs.Common.{◌≡◌, ◌≢◌, ◌⊎◌, inl, inr, refl, sym, ◌∙◌, ap, subst, ℕ, zero, suc, ◌+◌, ◌<◌, ◌≤◌, Bool, true, false, cond, List, [], ◌∷◌, ◌++◌, length, map, append_assoc, arith}
-use Rattle.std.specs.List.{list_any, flat_map}
+use Rattle.std.proofs.Common.{◌≡◌, ◌⊎◌, inl, inr, refl, sym, ◌∙◌, subst, ℕ, suc, ◌<◌, ◌≤◌, Bool, true, false, cond, List, [], ◌∷◌, ◌++◌, length, append_assoc, arith}
+use Rattle.std.specs.List.{flat_map}
 use Rattle.std.proofs.Math.Dec.{eqb}
 use Rattle.std.proofs.lemmas.Bool.Decides.{eqb_tells}
 use Rattle.il_core.specs.LineGraph.{IsIn}
 use Rattle.flow_graph.specs.Reached.{Differ}
 use Rattle.flow_graph.proofs.Members.{IsIn-push, IsIn-append_left, IsIn-append_right, IsIn-append_cases}
 use Rattle.interval_reduce.specs.declared.interval.Interval.{Interval}
-use Rattle.interval_reduce.specs.Interval.{IsLeast, Fits, Takes, IsIntervalOf}
-use Rattle.interval_reduce.specs.Level.{MayBeHead, GoesOn, IsLevel, heads_of, holds, owner}
-use Rattle.interval_reduce.proofs.ReductionLists.{same_or_not, is_in_or_not, member_from, any_from, Differ-append}
+use Rattle.interval_reduce.specs.Interval.{Fits, Takes, IsIntervalOf}
+use Rattle.interval_reduce.specs.Level.{GoesOn, IsLevel, heads_of, holds, owner}
+use Rattle.interval_reduce.proofs.ReductionLists.{member_from, any_from, Differ-append}
 
 -- the nodes of the intervals
 abbrev pub nodes_of : List Interval → List ℕ

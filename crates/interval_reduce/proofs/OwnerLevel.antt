@@ -1,18 +1,17 @@
 -- A level of a graph: its intervals hold all nodes, its next level is a graph of the same kind, and not all are single nodes where
 -- some node has one predecessor alone.
-use Rattle.std.proofs.Common.{◌≡◌, ◌≢◌, ◌⊎◌, inl, inr, refl, sym, ◌∙◌, ap, subst, ℕ, zero, suc, ◌+◌, ◌<◌, List, [], ◌∷◌, ◌++◌, length, append_assoc, arith}
+use Rattle.std.proofs.Common.{◌≡◌, ◌≢◌, inl, inr, refl, sym, ◌∙◌, subst, ℕ, List, [], ◌∷◌, ◌++◌, length, append_assoc, arith}
 use Rattle.il_core.specs.LineGraph.{IsIn}
 use Rattle.flow_graph.specs.Search.{IsWalk, Reaches}
-use Rattle.flow_graph.specs.Reached.{Differ}
 use Rattle.flow_graph.proofs.Members.{IsIn-append_cases, IsIn-append_left}
 use Rattle.flow_graph.proofs.Spreading.{walk_keeps}
 use Rattle.interval_reduce.specs.declared.interval.Interval.{Interval}
-use Rattle.interval_reduce.specs.Interval.{IsLeast, Fits, Takes, IsIntervalOf}
+use Rattle.interval_reduce.specs.Interval.{Takes, IsIntervalOf}
 use Rattle.interval_reduce.specs.Level.{MayBeHead, GoesOn, IsLevel, heads_of, owner, NextArc, AreSingle}
 use Rattle.interval_reduce.proofs.ReductionLists.{same_or_not, is_in_or_not}
 use Rattle.interval_reduce.proofs.Dominance.{Good}
 use Rattle.interval_reduce.proofs.ReductionUp.{Parted, image, crossing}
-use Rattle.interval_reduce.proofs.Owner.{nodes_of, place, AreIntervals, intervals_of, Shared, shared_all}
+use Rattle.interval_reduce.proofs.Owner.{nodes_of, place, intervals_of, Shared, shared_all}
 
 module _ (n : ℕ) (N : ℕ → Type 0) (E : ℕ → ℕ → Type 0) (good : Good n N E) where
   -- where no node may be a head, all nodes are in intervals

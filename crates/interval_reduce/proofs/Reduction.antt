@@ -1,10 +1,9 @@
 -- The reduction theorem: the levels of a graph end with one interval exactly where no cycle is twice entered.
-use Rattle.std.proofs.Common.{◌≡◌, ◌≢◌, ◌⊎◌, inl, inr, refl, sym, ◌∙◌, ap, subst, ℕ, List, [], ◌∷◌, length, arith}
+use Rattle.std.proofs.Common.{◌≡◌, ◌≢◌, inl, inr, refl, ℕ, List, [], ◌∷◌, length}
 use Rattle.il_core.specs.LineGraph.{IsIn}
 use Rattle.control_flow.specs.Cycle.{IsReducible}
 use Rattle.interval_reduce.specs.declared.interval.Interval.{Interval}
 use Rattle.interval_reduce.specs.Level.{IsLevel, IsLastLevel, AreLevels, last_level, heads_of, owner, NextArc, AreSingle}
-use Rattle.interval_reduce.proofs.ReductionLists.{same_or_not}
 use Rattle.interval_reduce.proofs.Dominance.{Good, one_predecessor}
 use Rattle.interval_reduce.proofs.ReductionUp.{carried_up, no_cycle}
 use Rattle.interval_reduce.proofs.ReductionDown.{carried_down}

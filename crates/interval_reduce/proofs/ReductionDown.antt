@@ -1,18 +1,17 @@
 -- A graph whose nodes are parted into intervals: a twice entered cycle of the next level is carried back by walks inside the intervals.
-use Rattle.std.proofs.Common.{◌≡◌, ◌≢◌, ◌⊎◌, inl, inr, refl, sym, ◌∙◌, ap, subst, ℕ, zero, suc, ◌<◌, ◌≤◌, List, [], ◌∷◌, ◌++◌, arith}
+use Rattle.std.proofs.Common.{◌≡◌, ◌⊎◌, inl, inr, refl, sym, ◌∙◌, ap, subst, ℕ, zero, suc, ◌<◌, List, [], ◌∷◌, ◌++◌, arith}
 use Rattle.il_core.specs.LineGraph.{IsIn}
-use Rattle.flow_graph.specs.Search.{IsWalk, Reaches}
+use Rattle.flow_graph.specs.Search.{IsWalk}
 use Rattle.flow_graph.specs.Meeting.{Meets, IsMetAt}
 use Rattle.flow_graph.proofs.Members.{IsIn-push_cases, IsIn-append_cases, IsIn-append_right}
 use Rattle.flow_graph.proofs.Spreading.{walk_on}
 use Rattle.control_flow.specs.Cycle.{HasTwiceEntered, IsTwiceEntered}
-use Rattle.interval_reduce.proofs.ReductionLists.{same_or_not, is_in_or_not}
 use Rattle.interval_reduce.proofs.ReductionWalks.{walk_append}
 use Rattle.interval_reduce.proofs.Dominance.{Good}
 use Rattle.interval_reduce.proofs.ReductionUp.{Parted, Leads, crossing}
 
 -- the last arc of a walk
-last_arc : (E : ℕ → ℕ → Type 0) (a : ℕ) (lines : List ℕ) (b : ℕ) → IsWalk E a lines b → (a ≡ b) ⊎ ((p : ℕ) × E p b)
+pub last_arc : (E : ℕ → ℕ → Type 0) (a : ℕ) (lines : List ℕ) (b : ℕ) → IsWalk E a lines b → (a ≡ b) ⊎ ((p : ℕ) × E p b)
 last_arc E a [] b w = inl w
 last_arc E a (c ∷ rest) b w = elim (last_arc E c rest b w.1) [ inl e ↦ inr (a, rw (← e) w.0) | inr t ↦ inr t ]
 
@@ -72,10 +71,12 @@ module _ (n : ℕ) (N : ℕ → Type 0) (E : ℕ → ℕ → Type 0) (own place 
   carried a (c ∷ rest) b w o =
       let x = crossed a c w.0 in
       let t = carried c rest b w.1 x.stays in
-      let ls = x.way.0 in
-      (ls ++ c ∷ t.0, walk_append E a ls x.tail (c ∷ t.0) b x.way.1 (x.arc, t.1),
+      let ls = x.way.0 in (
+        ls ++ c ∷ t.0,
+        walk_append E a ls x.tail (c ∷ t.0) b x.way.1 (x.arc, t.1),
         (λ k i. elim (IsIn-append_cases (a ∷ ls) (c ∷ t.0) k i) [ inl j ↦ inl (sym (x.way.2 k j)) | inr j ↦ inr (t.2 k j) ]),
-        λ m i. elim i [ inl s ↦ inl s | inr j ↦ IsIn-append_right (a ∷ ls) (c ∷ t.0) m (t.3 m j) ])
+        λ m i. elim i [ inl s ↦ inl s | inr j ↦ IsIn-append_right (a ∷ ls) (c ∷ t.0) m (t.3 m j) ],
+      )
 
   module _ (cycle nodes : List ℕ) (owned : (k : ℕ) → IsIn cycle k → IsIn nodes (own k)) (there : (m : ℕ) → IsIn nodes m → IsIn cycle m) where
     -- so is one that meets a cycle first at a line

@@ -1,5 +1,5 @@
 -- Lists of numbers: members are decided, lists that differ are no longer than their bound, and lists that can always grow are none.
-use Rattle.std.proofs.Common.{◌≡◌, ◌≢◌, ◌⊎◌, inl, inr, refl, sym, ℕ, zero, suc, ◌+◌, ◌<◌, ◌≤◌, Bool, true, false, List, [], ◌∷◌, ◌++◌, length, arith}
+use Rattle.std.proofs.Common.{◌≡◌, ◌≢◌, ◌⊎◌, inl, inr, refl, sym, ℕ, zero, suc, ◌+◌, ◌<◌, ◌≤◌, true, false, List, [], ◌∷◌, ◌++◌, length, arith}
 use Rattle.std.specs.List.{IsDistinct, AllByRecursion, list_any}
 use Rattle.std.proofs.Math.Dec.{eqb}
 use Rattle.std.proofs.lemmas.Bool.Decides.{eqb_tells}
@@ -46,15 +46,18 @@ pub Differ-append : (xs ys : List ℕ) → Differ xs → Differ ys → ((k : ℕ
 Differ-append [] ys d e n = e
 Differ-append (x ∷ xs) ys d e n = (
   (λ h. elim (IsIn-append_cases xs ys x h) [ inl i ↦ d.0 i | inr j ↦ n x (inl refl) j ]),
-  Differ-append xs ys d.1 e (λ k i j. n k (inr i) j))
+  Differ-append xs ys d.1 e (λ k i j. n k (inr i) j),
+)
 
 -- and the other way round
 pub Differ-parts : (xs ys : List ℕ) → Differ (xs ++ ys) → Differ xs × Differ ys × ((k : ℕ) → IsIn xs k → IsIn ys k → ⊥)
 Differ-parts [] ys d = (tt, d, λ k h. absurd h)
 Differ-parts (x ∷ xs) ys d =
-    let t = Differ-parts xs ys d.1 in
-    (((λ h. d.0 (IsIn-append_left xs ys x h)), t.0), t.1,
-      λ k h j. elim h [ inl e ↦ d.0 (IsIn-append_right xs ys x (rw e j)) | inr i ↦ t.2 k i j ])
+    let t = Differ-parts xs ys d.1 in (
+      ((λ h. d.0 (IsIn-append_left xs ys x h)), t.0),
+      t.1,
+      λ k h j. elim h [ inl e ↦ d.0 (IsIn-append_right xs ys x (rw e j)) | inr i ↦ t.2 k i j ],
+    )
 
 -- numbers below a limit that differ are no more than the limit
 pub length_below : (xs : List ℕ) (n : ℕ) → Differ xs → AreBelow n xs → length xs ≤ n

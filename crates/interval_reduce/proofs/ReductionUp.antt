@@ -1,11 +1,11 @@
 -- A graph whose nodes are parted into intervals: a cycle that is twice entered leads to one of the next level.
-use Rattle.std.proofs.Common.{◌≡◌, ◌≢◌, ◌⊎◌, inl, inr, refl, sym, ◌∙◌, ap, subst, ℕ, ◌<◌, ◌≤◌, List, [], ◌∷◌, ◌++◌, arith}
+use Rattle.std.proofs.Common.{◌≡◌, ◌≢◌, ◌⊎◌, inl, inr, refl, sym, ◌∙◌, ap, subst, ℕ, ◌<◌, ◌≤◌, List, [], ◌∷◌, arith}
 use Rattle.il_core.specs.LineGraph.{IsIn}
-use Rattle.flow_graph.specs.Search.{IsWalk, Reaches}
+use Rattle.flow_graph.specs.Search.{IsWalk}
 use Rattle.flow_graph.specs.Meeting.{Meets, IsMetAt}
 use Rattle.control_flow.specs.Cycle.{HasTwiceEntered, IsTwiceEntered}
 use Rattle.interval_reduce.proofs.ReductionLists.{same_or_not, is_in_or_not}
-use Rattle.interval_reduce.proofs.ReductionWalks.{walk_to, walk_end, walk_from, first_met, met_in, met_last, met_walk, met_before, StandsIn}
+use Rattle.interval_reduce.proofs.ReductionWalks.{walk_end, met_in, StandsIn}
 use Rattle.interval_reduce.proofs.Dominance.{Good}
 
 -- each node belongs to one that belongs to itself; any other is entered from inside alone, from places before its own
@@ -27,17 +27,23 @@ module _ (n : ℕ) (N : ℕ → Type 0) (E : ℕ → ℕ → Type 0) (own place 
   -- a walk leads to one over what its nodes belong to
   pub image : (a : ℕ) (lines : List ℕ) (b : ℕ) → IsWalk E a lines b
       → (nodes : List ℕ) × IsWalk (Leads E own) (own a) nodes (own b) × ((k : ℕ) → IsIn (a ∷ lines) k → IsIn (own a ∷ nodes) (own k))
-        × ((m : ℕ) → IsIn (own a ∷ nodes) m → (k : ℕ) × IsIn (a ∷ lines) k × (own k ≡ m))
+      × ((m : ℕ) → IsIn (own a ∷ nodes) m → (k : ℕ) × IsIn (a ∷ lines) k × (own k ≡ m))
   image a [] b w = ([], ap own w, (λ k h. elim h [ inl e ↦ inl (ap own e) | inr x ↦ absurd x ]), λ m h. elim h [ inl e ↦ (a, inl refl, e) | inr x ↦ absurd x ])
   image a (c ∷ rest) b w =
       let t = image c rest b w.1 in
       elim (same_or_not (own a) (own c)) [
-        | inl same ↦ (t.0, subst (λ (x : ℕ). IsWalk (Leads E own) x t.0 (own b)) (sym same) t.1,
-            (λ k h. elim h [ inl e ↦ inl (ap own e) | inr i ↦ subst (λ (x : ℕ). IsIn (x ∷ t.0) (own k)) (sym same) (t.2 k i) ]),
-            λ m h. let f = t.3 m (subst (λ (x : ℕ). IsIn (x ∷ t.0) m) same h) in (f.0, inr f.1, f.2))
-        | inr other ↦ (own c ∷ t.0, ((other, a, c, w.0, refl, refl), t.1),
-            (λ k h. elim h [ inl e ↦ inl (ap own e) | inr i ↦ inr (t.2 k i) ]),
-            λ m h. elim h [ inl e ↦ (a, inl refl, e) | inr i ↦ let f = t.3 m i in (f.0, inr f.1, f.2) ])
+        | inl same ↦ (
+          t.0,
+          subst (λ (x : ℕ). IsWalk (Leads E own) x t.0 (own b)) (sym same) t.1,
+          (λ k h. elim h [ inl e ↦ inl (ap own e) | inr i ↦ subst (λ (x : ℕ). IsIn (x ∷ t.0) (own k)) (sym same) (t.2 k i) ]),
+          λ m h. let f = t.3 m (subst (λ (x : ℕ). IsIn (x ∷ t.0) m) same h) in (f.0, inr f.1, f.2),
+        )
+        | inr other ↦ (
+          own c ∷ t.0,
+          ((other, a, c, w.0, refl, refl), t.1),
+          (λ k h. elim h [ inl e ↦ inl (ap own e) | inr i ↦ inr (t.2 k i) ]),
+          λ m h. elim h [ inl e ↦ (a, inl refl, e) | inr i ↦ let f = t.3 m i in (f.0, inr f.1, f.2) ],
+        )
       ]
 
   -- on a closed walk stands what each of its nodes belongs to, if that of one does

@@ -1,3 +1,4 @@
 pub mod Interval
 pub mod Level
 pub mod Derivation
+pub mod Laws

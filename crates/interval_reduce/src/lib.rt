@@ -4,5 +4,7 @@
 #![tactic(auto)]
 
 mod interval;
+mod laws;
 
 pub use interval::{Derivation, Interval};
+pub use laws::reduction_theorem;

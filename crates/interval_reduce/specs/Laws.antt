@@ -1,0 +1,11 @@
+-- The reduction theorem: the levels of a well formed graph end with one interval exactly where no cycle is twice entered, and where
+-- none is the order has each inner line exactly once.
+use Rattle.flow_graph.specs.Graph.{IsWellFormed}
+use Rattle.flow_graph.specs.declared.graph.FlowGraph.{FlowGraph}
+use Rattle.control_flow.specs.Control.{IsShape}
+use Rattle.control_flow.specs.declared.control.Shape.{Shape}
+use Rattle.interval_reduce.specs.declared.interval.Derivation.{Derivation}
+use Rattle.interval_reduce.specs.Derivation.{IsDerivationOf, Reduces}
+
+abbrev pub ReductionTheorem : Type 0
+ReductionTheorem = (g : FlowGraph) (shape : Shape) (d : Derivation) → IsWellFormed g → IsShape g shape → IsDerivationOf g shape d → Reduces g shape d
