@@ -8,3 +8,5 @@ pub mod OwnerLevel
 pub mod Reduction
 pub mod Order
 pub mod ReductionGraph
+pub mod ReductionShape
+pub mod ReductionOnce

@@ -7,4 +7,4 @@ mod interval;
 mod laws;
 
 pub use interval::{Derivation, Interval};
-pub use laws::reduction_theorem;
+pub use laws::{levels_tell_shape, one_derivation, reduction_theorem};
