@@ -1,5 +1,5 @@
--- In a graph without a twice entered cycle some node but the first has exactly one predecessor, which governs it: dominance in
--- place of a smallest loop.
+-- In a graph without a twice entered cycle, and with more than the first node, some other node has no two predecessors. What governs
+-- nodes, and least of them, stands in place of a smallest loop.
 use Rattle.std.proofs.Common.{◌≡◌, ◌≢◌, inl, inr, refl, sym, ◌∙◌, ℕ, ◌<◌, List, [], ◌∷◌, ◌++◌, subst}
 use Rattle.il_core.specs.LineGraph.{IsIn}
 use Rattle.flow_graph.specs.Search.{IsWalk, Reaches, AreBelow}
@@ -26,13 +26,9 @@ pub record Governs (N : ℕ → Type 0) (E : ℕ → ℕ → Type 0) (d v : ℕ)
   pub other : d ≢ v
   pub node : N v
 
--- each node on a walk is a node
-pub on_walk : (n : ℕ) (N : ℕ → Type 0) (E : ℕ → ℕ → Type 0) → Good n N E → (a : ℕ) (lines : List ℕ) (b : ℕ) → N a → IsWalk E a lines b
-    → (k : ℕ) → IsIn (a ∷ lines) k → N k
-on_walk n N E g a [] b s w k (inl e) = rw (← e) s
-on_walk n N E g a [] b s w k (inr h) = absurd h
-on_walk n N E g a (c ∷ rest) b s w k (inl e) = rw (← e) s
-on_walk n N E g a (c ∷ rest) b s w k (inr h) = on_walk n N E g c rest b (g.joined a c w.0).1 w.1 k h
+-- no node but the first has node d alone for a predecessor
+abbrev pub AreJoined : (ℕ → Type 0) → (ℕ → ℕ → Type 0) → Type 0
+AreJoined N E = (d v : ℕ) → N v → v ≢ 0 → d ≢ v → ((u : ℕ) → E u v → u ≡ d) → ⊥
 
 -- nodes that differ, each an arc from the next, all governed by node s
 abbrev pub IsTrail : (ℕ → Type 0) → (ℕ → ℕ → Type 0) → ℕ → List ℕ → Type 0
@@ -49,10 +45,6 @@ governed_later : (N : ℕ → Type 0) (E : ℕ → ℕ → Type 0) (d v : ℕ) �
 governed_later N E d v g e = elim (g.on_every [] (sym e)) [ inl same ↦ g.other (sym (e ∙ same)) | inr h ↦ h ]
 
 module _ (n : ℕ) (N : ℕ → Type 0) (E : ℕ → ℕ → Type 0) (good : Good n N E) where
-  -- what governs a node is a node
-  governs_node : (d v : ℕ) → Governs N E d v → N d
-  governs_node d v g = let t = good.reached v g.node in on_walk n N E good 0 t.0 v good.first t.1 d (g.on_every t.0 t.1)
-
   -- no two nodes govern each other
   not_both : (d s : ℕ) → Governs N E d s → Governs N E s d → ⊥
   not_both d s g h =
@@ -118,9 +110,9 @@ module _ (n : ℕ) (N : ℕ → Type 0) (E : ℕ → ℕ → Type 0) (good : Goo
       ]
 
   -- no node governs nodes none of which governs another, where each of them has two predecessors
-  no_leaves : (s t : ℕ) → IsReducible E 0 → ((d v : ℕ) → N v → v ≢ 0 → d ≢ v → ((u : ℕ) → E u v → u ≡ d) → ⊥) → Governs N E s t
+  no_leaves : (s t : ℕ) → IsReducible E 0 → AreJoined N E → Governs N E s t
       → ((x y : ℕ) → Governs N E s x → Governs N E x y → ⊥) → ⊥
-  no_leaves s t reducible single g leaves = drained n (IsTrail N E s) fine grows (t ∷ []) (t, refl, ((λ h. h), tt), λ k h. elim h [ inl e ↦ rw (← e) g | inr n ↦ absurd n ])
+  no_leaves s t reducible joined g leaves = drained n (IsTrail N E s) fine grows (t ∷ []) (t, refl, ((λ h. h), tt), λ k h. elim h [ inl e ↦ rw (← e) g | inr n ↦ absurd n ])
     where
       fine : (xs : List ℕ) → IsTrail N E s xs → Differ xs × AreBelow n xs
       fine [] q = absurd q
@@ -128,7 +120,7 @@ module _ (n : ℕ) (N : ℕ → Type 0) (E : ℕ → ℕ → Type 0) (good : Goo
 
       grows : (xs : List ℕ) → IsTrail N E s xs → ((x : ℕ) → IsTrail N E s (x ∷ xs) → ⊥) → ⊥
       grows [] q none = q
-      grows (v ∷ rest) q none = single s v gv.node (governed_later N E s v gv) gv.other (λ u e. elim (same_or_not u s) [ inl same ↦ same | inr other ↦ absurd (back u e (governs_back s u v gv e other)) ])
+      grows (v ∷ rest) q none = joined s v gv.node (governed_later N E s v gv) gv.other only
         where
           gv : Governs N E s v
           gv = q.3 v (inl refl)
@@ -139,18 +131,24 @@ module _ (n : ℕ) (N : ℕ → Type 0) (E : ℕ → ℕ → Type 0) (good : Goo
             | inr new ↦ none u (q.0, (e, q.1), (new, q.2), λ k i. elim i [ inl same ↦ rw (← same) gu | inr j ↦ q.3 k j ])
           ]
 
+          only : (u : ℕ) → E u v → u ≡ s
+          only u e = elim (same_or_not u s) [ inl same ↦ same | inr other ↦ absurd (back u e (governs_back s u v gv e other)) ]
+
   -- where no cycle is twice entered, and there is a node but the first, some node has one predecessor alone
-  pub one_predecessor : (t : ℕ) → IsReducible E 0 → N t → t ≢ 0 → ((d v : ℕ) → N v → v ≢ 0 → d ≢ v → ((u : ℕ) → E u v → u ≡ d) → ⊥) → ⊥
-  one_predecessor t reducible node later single =
-      drained n (IsChain N E) fine grows (0 ∷ []) (t, record { on_every = λ lines w. inl refl; other = λ e. later (sym e); node = node }, λ d h. absurd h, ((λ h. h), tt), λ k h. elim h [ inl e ↦ rw (← e) good.first | inr n ↦ absurd n ])
+  pub one_predecessor : (t : ℕ) → IsReducible E 0 → N t → t ≢ 0 → AreJoined N E → ⊥
+  one_predecessor t reducible node later joined =
+      drained n (IsChain N E) fine grows (0 ∷ []) (t, governed, λ d h. absurd h, ((λ h. h), tt), λ k h. elim h [ inl e ↦ rw (← e) good.first | inr n ↦ absurd n ])
     where
+      governed : Governs N E 0 t
+      governed = record { on_every = λ lines w. inl refl; other = λ e. later (sym e); node = node }
+
       fine : (xs : List ℕ) → IsChain N E xs → Differ xs × AreBelow n xs
       fine [] q = absurd q
       fine (s ∷ seen) q = (q.3, λ k h. good.below k (q.4 k h))
 
       grows : (xs : List ℕ) → IsChain N E xs → ((x : ℕ) → IsChain N E (x ∷ xs) → ⊥) → ⊥
       grows [] q none = q
-      grows (s ∷ seen) q none = no_leaves s q.0 reducible single q.1 down
+      grows (s ∷ seen) q none = no_leaves s q.0 reducible joined q.1 down
         where
           down : (x y : ℕ) → Governs N E s x → Governs N E x y → ⊥
           down x y g h = none x (y, h, above, ((λ i. (above x i).other refl), q.3), λ k i. elim i [ inl same ↦ rw (← same) g.node | inr j ↦ q.4 k j ])

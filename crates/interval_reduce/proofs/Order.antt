@@ -1,5 +1,5 @@
 -- The order of a graph whose levels end with one interval: each node but the first is taken in exactly one level.
-use Rattle.std.proofs.Common.{◌≡◌, ◌≢◌, ◌⊎◌, inl, inr, refl, sym, ◌∙◌, subst, ℕ, List, [], ◌∷◌, ◌++◌, length, arith}
+use Rattle.std.proofs.Common.{◌≡◌, ◌≢◌, ◌⊎◌, inl, inr, refl, sym, subst, ℕ, List, [], ◌∷◌, ◌++◌, length}
 use Rattle.std.specs.Prelude.{◌↔◌, drop}
 use Rattle.std.specs.List.{flat_map}
 use Rattle.il_core.specs.LineGraph.{IsIn}
@@ -10,7 +10,7 @@ use Rattle.interval_reduce.specs.Level.{IsLevel, AreLevels, last_level, heads_of
 use Rattle.interval_reduce.specs.Derivation.{taken}
 use Rattle.interval_reduce.proofs.ReductionLists.{Differ-append, Differ-parts}
 use Rattle.interval_reduce.proofs.Dominance.{Good}
-use Rattle.interval_reduce.proofs.Owner.{nodes_of, AreIntervals, intervals_of}
+use Rattle.interval_reduce.proofs.Owner.{nodes_of, only_one, AreIntervals, intervals_of}
 use Rattle.interval_reduce.proofs.OwnerLevel.{covered, starts, shared, good_next}
 
 -- what the intervals of a level take
@@ -77,14 +77,6 @@ sorted N E earlier (i ∷ rest) a d =
 pub record TakesAll (N : ℕ → Type 0) (order : List ℕ) : Type 0 where
   pub differ : Differ order
   pub exact : (v : ℕ) → IsIn order v ↔ (N v × (v ≢ 0))
-
--- the head of the only interval
-only_one : (level : List Interval) (u v : ℕ) → length level ≡ 1 → IsIn (heads_of level) u → IsIn (heads_of level) v → u ≡ v
-only_one [] u v e h k = absurd h
-only_one (i ∷ []) u v e (inl h) (inl k) = sym h ∙ k
-only_one (i ∷ []) u v e (inr h) k = absurd h
-only_one (i ∷ []) u v e (inl h) (inr k) = absurd k
-only_one (i ∷ j ∷ rest) u v e h k = absurd (omega arith)
 
 -- one level more: its heads are the nodes of the levels behind it, or it has but one
 ordered_more : (n : ℕ) (N : ℕ → Type 0) (E : ℕ → ℕ → Type 0) (level : List Interval) (later : List ℕ) → Good n N E → IsLevel N E level

@@ -15,6 +15,14 @@ use Rattle.interval_reduce.proofs.ReductionLists.{member_from, any_from, Differ-
 abbrev pub nodes_of : List Interval → List ℕ
 nodes_of level = flat_map (λ i. i.members) level
 
+-- the head of the only interval
+pub only_one : (level : List Interval) (u v : ℕ) → length level ≡ 1 → IsIn (heads_of level) u → IsIn (heads_of level) v → u ≡ v
+only_one [] u v e h k = absurd h
+only_one (i ∷ []) u v e (inl h) (inl k) = sym h ∙ k
+only_one (i ∷ []) u v e (inr h) k = absurd h
+only_one (i ∷ []) u v e (inl h) (inr k) = absurd k
+only_one (i ∷ j ∷ rest) u v e h k = absurd (omega arith)
+
 -- the place of a node in a list
 abbrev pub index_of : List ℕ → ℕ → ℕ
 index_of [] v = 0

@@ -11,7 +11,7 @@ use Rattle.interval_reduce.specs.Level.{MayBeHead, GoesOn, IsLevel, heads_of, ow
 use Rattle.interval_reduce.proofs.ReductionLists.{same_or_not, is_in_or_not}
 use Rattle.interval_reduce.proofs.Dominance.{Good}
 use Rattle.interval_reduce.proofs.ReductionUp.{Parted, image, crossing}
-use Rattle.interval_reduce.proofs.Owner.{nodes_of, place, intervals_of, Shared, shared_all}
+use Rattle.interval_reduce.proofs.Owner.{nodes_of, only_one, place, intervals_of, Shared, shared_all}
 
 module _ (n : ℕ) (N : ℕ → Type 0) (E : ℕ → ℕ → Type 0) (good : Good n N E) where
   -- where no node may be a head, all nodes are in intervals
@@ -82,14 +82,7 @@ module _ (n : ℕ) (N : ℕ → Type 0) (E : ℕ → ℕ → Type 0) (good : Goo
 
     -- the nodes of one interval belong to one head
     pub all_one : length level ≡ 1 → (u v : ℕ) → N u → N v → owner level u ≡ owner level v
-    all_one one u v a b = of_heads level one (shared.owned u (covered u a)) (shared.owned v (covered v b))
-      where
-        of_heads : (l : List Interval) → length l ≡ 1 → IsIn (heads_of l) (owner level u) → IsIn (heads_of l) (owner level v) → owner level u ≡ owner level v
-        of_heads [] e h k = absurd h
-        of_heads (i ∷ []) e (inl h) (inl k) = sym h ∙ k
-        of_heads (i ∷ []) e (inr h) k = absurd h
-        of_heads (i ∷ []) e (inl h) (inr k) = absurd k
-        of_heads (i ∷ j ∷ rest) e h k = absurd (omega arith)
+    all_one one u v a b = only_one level (owner level u) (owner level v) one (shared.owned u (covered u a)) (shared.owned v (covered v b))
 
   -- a member of a single interval is its head
   only_head : (earlier : List ℕ) (h : ℕ) (members : List ℕ) → IsIntervalOf N E earlier h members → length members ≡ 1 → (k : ℕ) → IsIn members k → k ≡ h
