@@ -1,0 +1,6 @@
+pub mod Word
+pub mod ArcPath
+pub mod Definitions
+pub mod Marks
+pub mod Report
+pub mod Live
