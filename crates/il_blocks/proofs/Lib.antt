@@ -1,8 +1,8 @@
 pub mod BlockNest
-pub mod BlockStack
 pub mod BlockPlaces
+pub mod BlockChain
+pub mod BlockStack
 pub mod BlockLabels
 pub mod BlockFirst
-pub mod BlockChain
 pub mod BlockOne
 pub mod BlockLaw
