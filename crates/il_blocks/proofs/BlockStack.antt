@@ -9,7 +9,8 @@ use Rattle.il_core.specs.Statement.{Statement, Placed}
 use Rattle.il_blocks.specs.declared.block.Kind.{Kind}
 use Rattle.il_blocks.specs.declared.block.Closer.{Closer}
 use Rattle.il_blocks.specs.declared.block.OpenBlock.{OpenBlock}
-use Rattle.il_blocks.specs.Block.{fits, is_round, leaves, opened_by, closed_by, closings, openings, brackets_of, brackets, Bracket, ClosesNothing, LeavesNothing, IsUnmatched}
+use Rattle.il_blocks.specs.Block.{fits, is_round, leaves, opened_by, closed_by, closings, openings, brackets, Bracket, ClosesNothing, LeavesNothing, IsUnmatched}
+use Rattle.il_blocks.specs.BlockFault.{HasNoFault}
 use Rattle.il_blocks.specs.BlockStack.{innermost, in_loop, left, entered, moved}
 use Rattle.il_blocks.proofs.BlockNest.{scan, scan_append, opens_scanned, scanned_opens}
 use Rattle.il_blocks.proofs.BlockChain.{kinds, Chain, Moves, chain_scan, chain_moves, chain_opens}
@@ -210,3 +211,9 @@ goes_past ss i s es js at h g =
 -- what holds of each statement before the end holds of all
 pub none_unmatched : (ss : List Placed) (i : ℕ) → length ss ≤ i → ((j : ℕ) → j < i → IsUnmatched ss j → ⊥) → (j : ℕ) → IsUnmatched ss j → ⊥
 none_unmatched ss i h before j u = let k : j < length ss = slice_get_within ss j u.stmt u.at in before j (omega arith) u
+
+-- where no statement is unmatched, the stack goes on
+pub goes_on : (ss : List Placed) (i : ℕ) (s : Placed) (es js : List OpenBlock) (good : Bool) → slice_get ss i ≡ Some s → IsStack ss i es → HasNoFault ss
+    → moved i s.says es ≡ (if good then Some js else None) → moved i s.says es ≡ Some js
+goes_on ss i s es js true at f n e = e
+goes_on ss i s es js false at f n e = absurd (n i (inl (unmatched_here ss i s es at f e)))

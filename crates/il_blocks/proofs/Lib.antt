@@ -6,3 +6,8 @@ pub mod BlockLabels
 pub mod BlockFirst
 pub mod BlockOne
 pub mod BlockLaw
+pub mod BlockOrder
+pub mod BlockMates
+pub mod BlockLines
+pub mod BlockTargets
+pub mod BlockLinks

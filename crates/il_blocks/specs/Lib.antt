@@ -3,3 +3,5 @@ pub mod BlockStack
 pub mod BlockLabel
 pub mod BlockFault
 pub mod BlockLink
+pub mod BlockTable
+pub mod BlockTables

@@ -36,7 +36,7 @@ pub(crate) enum Closer {
 #[derive(Clone, Copy, Debug, PartialEq, Eq)]
 pub(crate) struct OpenBlock {
     /// The number of the statement that opened it.
-    at: usize,
+    pub(crate) at: usize,
     /// What opened it.
     kind: Kind,
     /// The number of the innermost LOOP that is this block or around it.
@@ -57,7 +57,7 @@ fn opened_by(form: &Form) -> Option<Kind>
 }
 
 /// How a statement closes a block.
-fn closed_by(form: &Form) -> Option<Closer>
+pub(crate) fn closed_by(form: &Form) -> Option<Closer>
     ensures { result ≡ closed_by (statement_of form.now) }
 {
     match form {
@@ -136,11 +136,7 @@ fn enter(blocks: &mut Vec<OpenBlock>, at: usize, kind: Option<Kind>) -> Result<(
 }
 
 /// Goes past the statement numbered `at`; whether it is matched.
-pub(crate) fn pass(
-    blocks: &mut Vec<OpenBlock>,
-    at: usize,
-    form: &Form,
-) -> Result<bool, NoMemory>
+pub(crate) fn pass(blocks: &mut Vec<OpenBlock>, at: usize, form: &Form) -> Result<bool, NoMemory>
     ensures { IfOk result (λ good. moved at (statement_of form.now) (reverse blocks.old.items) ≡ (if good then Some (reverse blocks.new.items) else None)) }
 {
     if leaves(form) && innermost(blocks.as_slice()).is_none() {
