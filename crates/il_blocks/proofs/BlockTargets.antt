@@ -14,7 +14,7 @@ use Rattle.il_blocks.specs.BlockLabel.{owner, target_of, found, IsTable, IsLabel
 use Rattle.il_blocks.specs.BlockFault.{HasNoFault}
 use Rattle.il_blocks.specs.BlockLink.{line_behind, next_line, line, is_else, Pairs, Surrounds, GoesOnAt, LeavesTo, HasTarget}
 use Rattle.il_blocks.specs.BlockTable.{AreLines, AreMates}
-use Rattle.il_blocks.specs.BlockTables.{SaysAt, OpensAt}
+use Rattle.il_blocks.specs.BlockTable.{SaysAt, OpensAt}
 
 -- a line is not above the number of its statement
 behind_low : (n : ℕ) (s : Statement) → line_behind n s ≤ n + 1

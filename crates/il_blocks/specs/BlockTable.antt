@@ -1,14 +1,16 @@
 -- What the passes over statements find, from which the links are read: the line of each, the line of the next ENDPROC
 -- behind each, the end of each block, and the LOOP of each EXIT and ENDLOOP.
-use Rattle.std.specs.Prelude.{◌≡◌, ◌+◌, ◌<◌, ◌≤◌, ℕ, true, List, [], ◌∷◌, length, drop, slice_get, get_or, set, Option, Some, None}
-use Rattle.il_core.specs.Statement.{Placed}
+use Rattle.std.specs.Prelude.{◌≡◌, ◌+◌, ◌<◌, ◌≤◌, ℕ, true, List, [], ◌∷◌, length, drop, slice_get, get_or, set, Option, Some, None, false}
+use Rattle.il_core.specs.Statement.{Placed, Statement}
 use Rattle.il_blocks.specs.declared.block.Kind.{Kind}
 use Rattle.il_blocks.specs.declared.block.Closer.{Closer}
 use Rattle.il_blocks.specs.declared.block.Closer.TheVariants as closer
 use Rattle.il_blocks.specs.declared.block.OpenBlock.{OpenBlock}
 use Rattle.il_blocks.specs.Block.{leaves, opened_by, closed_by}
 use Rattle.il_blocks.specs.BlockStack.{innermost}
-use Rattle.il_blocks.specs.BlockLink.{Pairs, Surrounds, line, end_line}
+use Rattle.il_blocks.specs.BlockLink.{Pairs, Surrounds, line, end_line, names_line, HasTarget}
+use Rattle.il_blocks.specs.declared.block_link.Tables.{Tables}
+use Rattle.il_blocks.specs.BlockLabel.{IsTable}
 
 -- the line of each statement, and behind them the next line
 pub record AreLines (stmts : List Placed) (lines : List ℕ) : Type 0 where
@@ -54,3 +56,28 @@ noted (Some c) (e ∷ _) i ends = set ends e.at i
 abbrev pub IsListed : List OpenBlock → ℕ → Type 0
 IsListed [] n = Unit {0}
 IsListed (e ∷ _) n = e.at < n
+
+-- the tables of these statements
+pub record AreTables (stmts : List Placed) (t : Tables) : Type 0 where
+  pub lines : AreLines stmts t.lines.items
+  pub returns : AreReturns stmts t.returns.items
+  pub mates : AreMates stmts t.mates.ends.items t.mates.heads.items
+  pub labels : IsTable stmts (length stmts) t.labels.entries
+
+-- what the statement numbered i says
+pub record SaysAt (stmts : List Placed) (i : ℕ) (s : Statement) : Type 0 where
+  pub stmt : Placed
+  pub at : slice_get stmts i ≡ Some stmt
+  pub says : stmt.says ≡ s
+
+-- the statement numbered i opens a block
+pub record OpensAt (stmts : List Placed) (i : ℕ) : Type 0 where
+  pub stmt : Placed
+  pub at : slice_get stmts i ≡ Some stmt
+  pub kind : Kind
+  pub opens : opened_by stmt.says ≡ Some kind
+
+-- the line to which a statement may jump, if it names one
+abbrev pub MayName : List Placed → ℕ → Statement → Option ℕ → Type 0
+MayName stmts i s None = names_line s ≡ false
+MayName stmts i s (Some target) = HasTarget stmts i s target

@@ -4,4 +4,3 @@ pub mod BlockLabel
 pub mod BlockFault
 pub mod BlockLink
 pub mod BlockTable
-pub mod BlockTables

@@ -81,6 +81,3 @@ pub fn one_match()
 pub fn one_links()
     ensures { OneLinks }
 {}
-
-#[cfg(test)]
-mod tests;

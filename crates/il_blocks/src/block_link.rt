@@ -4,7 +4,7 @@ ghost use Rattle.il_syntax.specs.Order.{IsInOrder};
 ghost use Rattle.il_blocks.specs.BlockLabel.{owner};
 ghost use Rattle.il_blocks.specs.BlockFault.{HasNoFault};
 ghost use Rattle.il_blocks.specs.BlockLink.{is_else, GoesOnAt, IsLink, AreLinks, LinksGive};
-ghost use Rattle.il_blocks.specs.BlockTables.{AreTables, SaysAt, OpensAt, MayName};
+ghost use Rattle.il_blocks.specs.BlockTable.{AreTables, SaysAt, OpensAt, MayName};
 
 use crate::block_fault::matched;
 use crate::block_label::{begins, found, label_table};

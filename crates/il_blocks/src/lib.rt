@@ -14,3 +14,6 @@ mod block_mate;
 pub use block::first_unmatched;
 pub use block_fault::{check_blocks, one_links, one_match};
 pub use block_link::match_blocks;
+
+#[cfg(test)]
+mod tests;

@@ -7,7 +7,7 @@ use Rattle.il_core.specs.declared.statement.Form.{Form}
 use Rattle.il_blocks.specs.declared.block.Kind.TheVariants as kind
 use Rattle.il_blocks.specs.BlockLabel.{found}
 use Rattle.il_blocks.specs.BlockLink.{Pairs, Surrounds, HasTarget}
-use Rattle.il_blocks.specs.BlockTables.{SaysAt}
+use Rattle.il_blocks.specs.BlockTable.{SaysAt}
 use Rattle.il_blocks.proofs.BlockTargets.{line_low, line_read, end_read, loop_read, head_read, opens_at, surrounds_opens, leaves_to, exit_target, exit_leaves, label_there, says_within, pair_within, pair_below}
 use Rattle.il_blocks.proofs.block_link.Tables.target.Goals as goal
 
