@@ -81,14 +81,13 @@ fn answer(alloc: Global, text: &str) -> Result<String, Fail> {
     let Ok(stmts) = parse(alloc, text.len(), tokens.as_slice()) else {
         return Ok(format!(in alloc; "no statements")?);
     };
-    let checked = check_blocks(alloc, stmts.as_slice());
-    match (checked, match_blocks(alloc, stmts.as_slice())) {
-        (Ok(()), Ok(links)) => shown(alloc, links.as_slice()),
-        (Err(TextEnd::Refused(refusal)), Err(TextEnd::Refused(same))) if refusal == same => {
+    match match_blocks(alloc, stmts.as_slice()) {
+        Ok(links) => shown(alloc, links.as_slice()),
+        Err(TextEnd::Refused(refusal)) => {
             let place = refusal.place;
             Ok(format!(in alloc; "at {place}")?)
         }
-        _ => Ok(format!(in alloc; "no answer")?),
+        Err(TextEnd::NoMemory) => Err(Fail::from(NoMemory)),
     }
 }
 
@@ -158,5 +157,6 @@ fn no_statements_have_no_fault(rt: HostRuntime) -> Result<(), Fail> {
     one_match();
     one_links();
     assert_eq!(rt; first_unmatched(rt.alloc(), &[])?, None);
+    assert_eq!(rt; check_blocks(rt.alloc(), &[]), Ok(()));
     Ok(())
 }
