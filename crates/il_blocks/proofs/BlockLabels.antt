@@ -9,7 +9,7 @@ use borrow.Author.Count.{below_more}
 use Rattle.il_core.specs.Statement.{Placed, placed}
 use Rattle.il_core.specs.declared.statement.Stmt.{Stmt}
 use Rattle.il_blocks.specs.BlockLabel.{begins, procedures, owner, label_of, target_of, IsLabel, IsRepeated, IsLost, IsMislabelled, Entries, same_key, found, IsTable, enlisted, is_other, is_repeat, is_lost}
-use Rattle.il_blocks.proofs.BlockStack.{take_next}
+use Rattle.il_blocks.proofs.BlockPlaces.{take_next}
 
 not_some : {A : Type 0} (x : A) → ◌≡◌ {A = Option A} None (Some x) → ⊥
 not_some x e = cc

@@ -1,8 +1,13 @@
 pub mod BlockNest
-pub mod BlockStack
 pub mod BlockPlaces
+pub mod BlockChain
+pub mod BlockStack
 pub mod BlockLabels
 pub mod BlockFirst
-pub mod BlockChain
 pub mod BlockOne
 pub mod BlockLaw
+pub mod BlockOrder
+pub mod BlockMates
+pub mod BlockLines
+pub mod BlockTargets
+pub mod BlockLinks

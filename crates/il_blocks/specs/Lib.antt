@@ -3,3 +3,4 @@ pub mod BlockStack
 pub mod BlockLabel
 pub mod BlockFault
 pub mod BlockLink
+pub mod BlockTable

@@ -1,7 +1,7 @@
-ghost use Rattle.std.specs.Prelude.{◌≡◌, ◌||◌, map, reverse, Some, None, IfOk, OnOk, if◌then◌else◌};
+ghost use Rattle.std.specs.Prelude.{◌≡◌, map, reverse, Some, None, IfOk, OnOk, if◌then◌else◌};
 ghost use Rattle.il_core.specs.Statement.{statement_of, placed};
 ghost use Rattle.il_blocks.specs.Block.{opened_by, closed_by, fits, is_round, leaves, IsUnmatched, IsFirst};
-ghost use Rattle.il_blocks.specs.BlockStack.{in_loop, left, entered, moved};
+ghost use Rattle.il_blocks.specs.BlockStack.{innermost, left, entered, moved};
 
 use il_core::{Form, NoMemory, Stmt};
 use std::alloc::Global;
@@ -32,11 +32,15 @@ pub(crate) enum Closer {
     ByEndProc,
 }
 
-/// A block that is open, and whether it is a LOOP or stands in one.
+/// A block that is open.
 #[derive(Clone, Copy, Debug, PartialEq, Eq)]
 pub(crate) struct OpenBlock {
+    /// The number of the statement that opened it.
+    pub(crate) at: usize,
+    /// What opened it.
     kind: Kind,
-    in_loop: bool,
+    /// The number of the innermost LOOP that is this block or around it.
+    round: Option<usize>,
 }
 
 /// The block that a statement opens.
@@ -53,7 +57,7 @@ fn opened_by(form: &Form) -> Option<Kind>
 }
 
 /// How a statement closes a block.
-fn closed_by(form: &Form) -> Option<Closer>
+pub(crate) fn closed_by(form: &Form) -> Option<Closer>
     ensures { result ≡ closed_by (statement_of form.now) }
 {
     match form {
@@ -92,13 +96,13 @@ fn is_round(kind: Kind) -> bool
     kind == Kind::Round
 }
 
-/// Whether the innermost of the open blocks is a LOOP or stands in one.
-fn in_loop(blocks: &[OpenBlock]) -> bool
-    ensures { result ≡ in_loop (reverse blocks.now) }
+/// The number of the innermost LOOP that is open.
+pub(crate) fn innermost(blocks: &[OpenBlock]) -> Option<usize>
+    ensures { result ≡ innermost (reverse blocks.now) }
 {
     match blocks.last() {
-        Some(top) => top.in_loop,
-        None => false,
+        Some(top) => top.round,
+        None => None,
     }
 }
 
@@ -115,29 +119,33 @@ fn close(blocks: &mut Vec<OpenBlock>, closer: Option<Closer>) -> bool
     }
 }
 
-/// Opens a block inside the others, where there is one to open.
-fn enter(blocks: &mut Vec<OpenBlock>, kind: Option<Kind>) -> Result<(), NoMemory>
-    ensures { OnOk result (reverse blocks.new.items ≡ entered kind (reverse blocks.old.items)) }
+/// Opens a block inside the others, where the statement numbered `at` opens one.
+fn enter(blocks: &mut Vec<OpenBlock>, at: usize, kind: Option<Kind>) -> Result<(), NoMemory>
+    ensures { OnOk result (reverse blocks.new.items ≡ entered at kind (reverse blocks.old.items)) }
 {
     let Some(kind) = kind else {
         return Ok(());
     };
-    let in_loop = is_round(kind) || in_loop(blocks.as_slice());
-    blocks.push(OpenBlock { kind, in_loop })?;
+    let round = if is_round(kind) {
+        Some(at)
+    } else {
+        innermost(blocks.as_slice())
+    };
+    blocks.push(OpenBlock { at, kind, round })?;
     Ok(())
 }
 
-/// Goes past a statement; whether it is matched.
-fn pass(blocks: &mut Vec<OpenBlock>, form: &Form) -> Result<bool, NoMemory>
-    ensures { IfOk result (λ good. moved (statement_of form.now) (reverse blocks.old.items) ≡ (if good then Some (reverse blocks.new.items) else None)) }
+/// Goes past the statement numbered `at`; whether it is matched.
+pub(crate) fn pass(blocks: &mut Vec<OpenBlock>, at: usize, form: &Form) -> Result<bool, NoMemory>
+    ensures { IfOk result (λ good. moved at (statement_of form.now) (reverse blocks.old.items) ≡ (if good then Some (reverse blocks.new.items) else None)) }
 {
-    if leaves(form) && !in_loop(blocks.as_slice()) {
+    if leaves(form) && innermost(blocks.as_slice()).is_none() {
         return Ok(false);
     }
     if !close(blocks, closed_by(form)) {
         return Ok(false);
     }
-    enter(blocks, opened_by(form))?;
+    enter(blocks, at, opened_by(form))?;
     Ok(true)
 }
 
@@ -148,7 +156,7 @@ pub fn first_unmatched(alloc: Global, stmts: &[Stmt]) -> Result<Option<usize>, N
 {
     let mut blocks = Vec::new(alloc);
     for (i, stmt) in stmts.iter().enumerate() {
-        if !pass(&mut blocks, &stmt.form)? {
+        if !pass(&mut blocks, i, &stmt.form)? {
             return Ok(Some(i));
         }
     }

@@ -45,6 +45,21 @@ pub(crate) fn first_fault(
     Ok(lesser(unmatched, first_mislabelled(labels, stmts)))
 }
 
+/// The answer of `check_blocks`, where the table of labels is made.
+pub(crate) fn matched(
+    alloc: Global,
+    labels: &IndexMap<(usize, Name), usize>,
+    stmts: &[Stmt],
+) -> Result<(), TextEnd>
+    requires { IsTable (map placed stmts.now) (length stmts.now) labels.now.entries }
+    ensures { MatchGives (map placed stmts.now) result }
+{
+    match first_fault(alloc, labels, stmts)? {
+        Some(at) => Err(refused(Code::Unmatched, stmts[at].place)),
+        None => Ok(()),
+    }
+}
+
 /// Whether each block and each label is matched. `Refused` comes with `Code::Unmatched` at the first statement of which one
 /// of these holds: an ELSE, ENDIF or ENDLOOP closes no fitting innermost open block, an IF has a second ELSE, an EXIT stands
 /// in no LOOP, a block is open at an ENDPROC, a LABEL repeats one of its procedure, a GOTO names no LABEL of its procedure.
@@ -53,10 +68,7 @@ pub fn check_blocks(alloc: Global, stmts: &[Stmt]) -> Result<(), TextEnd>
     ensures { MatchGives (map placed stmts.now) result }
 {
     let labels = label_table(alloc, stmts)?;
-    match first_fault(alloc, &labels, stmts)? {
-        Some(at) => Err(refused(Code::Unmatched, stmts[at].place)),
-        None => Ok(()),
-    }
+    matched(alloc, &labels, stmts)
 }
 
 /// No list of statements has two answers of `check_blocks`: not both a match and a refusal, and no two refusals.
@@ -69,6 +81,3 @@ pub fn one_match()
 pub fn one_links()
     ensures { OneLinks }
 {}
-
-#[cfg(test)]
-mod tests;

@@ -37,7 +37,11 @@ fn target_of(form: &Form) -> Option<Name>
 }
 
 /// The number of the LABEL with a name in a procedure.
-fn found(labels: &IndexMap<(usize, Name), usize>, inside: usize, name: Name) -> Option<usize>
+pub(crate) fn found(
+    labels: &IndexMap<(usize, Name), usize>,
+    inside: usize,
+    name: Name,
+) -> Option<usize>
     ensures { result ≡ found inside name labels.now.entries }
 {
     labels.get(&(inside, name)).copied()

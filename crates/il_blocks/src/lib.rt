@@ -7,6 +7,13 @@
 mod block;
 mod block_fault;
 mod block_label;
+mod block_line;
+mod block_link;
+mod block_mate;
 
 pub use block::first_unmatched;
 pub use block_fault::{check_blocks, one_links, one_match};
+pub use block_link::match_blocks;
+
+#[cfg(test)]
+mod tests;

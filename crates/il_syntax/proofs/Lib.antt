@@ -10,3 +10,4 @@ pub mod Piece
 pub mod ReadSoFar
 pub mod Ordering
 pub mod OneAnswer
+pub mod Turns

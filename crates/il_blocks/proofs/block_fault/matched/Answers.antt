@@ -8,7 +8,7 @@ use Rattle.il_blocks.specs.Block.{IsFirst}
 use Rattle.il_blocks.specs.BlockFault.{IsFault, MatchGives}
 use Rattle.il_blocks.proofs.BlockPlaces.{placed_at}
 use Rattle.il_blocks.proofs.BlockFirst.{fault_within}
-use Rattle.il_blocks.proofs.block_fault.check_blocks.Goals as goal
+use Rattle.il_blocks.proofs.block_fault.matched.Goals as goal
 
 pub returns-in-Some : goal.returns-in-Some
 returns-in-Some c =
