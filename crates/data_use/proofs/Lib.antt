@@ -5,3 +5,4 @@ pub mod Collected
 pub mod Carrying
 pub mod Fitting
 pub mod Telling
+pub mod Small

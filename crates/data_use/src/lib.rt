@@ -16,3 +16,6 @@ mod row;
 
 pub use report::data_use;
 pub use row::UseRow;
+
+#[cfg(test)]
+mod tests;
