@@ -1,0 +1,5 @@
+pub mod Events
+pub mod Facts
+pub mod Points
+pub mod Routes
+pub mod Sums
