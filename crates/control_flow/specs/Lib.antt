@@ -1,3 +1,4 @@
 pub mod Cycle
 pub mod Loop
 pub mod Control
+pub mod Forward

@@ -3,5 +3,9 @@
 #![tactic(auto)]
 
 mod control;
+mod loops;
+mod marks;
+mod rows;
+mod splitting;
 
 pub use control::{Control, Entries, LoopInfo, Shape};
