@@ -3,3 +3,6 @@ pub mod Walks
 pub mod Ways
 pub mod Leading
 pub mod Splits
+pub mod Pigeons
+pub mod OneEntry
+pub mod ComingBack

@@ -46,3 +46,11 @@ pub record MarksUnreachable (g : FlowGraph) (marks : List Bool) : Type 0 where
 pub record AreLoopsBelow (g : FlowGraph) (n : ℕ) (loops : List LoopInfo) : Type 0 where
   pub heads : Lists (λ h. IsHead g.arcs h × (h < n)) (heads_of loops)
   pub each : (k : ℕ) (l : LoopInfo) → slice_get loops k ≡ Some l → IsLoop g l
+
+-- line b is in the row of line a
+abbrev pub InRow : List (List ℕ) → ℕ → ℕ → Type 0
+InRow rows a b = IsIn (row_of rows a) b
+
+-- a closed walk of at least one arc goes from line a over lines that are not less than a
+abbrev pub ComesBack : List (List ℕ) → ℕ → Type 0
+ComesBack rows a = (b : ℕ) × (lines : List ℕ) × IsWalk (InRow rows) a (b ∷ lines) a × ((j : ℕ) → IsIn (b ∷ lines) j → a ≤ j)

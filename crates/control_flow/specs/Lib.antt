@@ -2,3 +2,4 @@ pub mod Cycle
 pub mod Loop
 pub mod Control
 pub mod Forward
+pub mod Laws

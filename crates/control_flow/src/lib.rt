@@ -3,9 +3,12 @@
 #![tactic(auto)]
 
 mod control;
+mod laws;
 mod loops;
 mod marks;
 mod rows;
+mod shaping;
 mod splitting;
 
 pub use control::{Control, Entries, LoopInfo, Shape};
+pub use laws::reducible_cycles_hold_a_head;
