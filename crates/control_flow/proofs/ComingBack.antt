@@ -1,15 +1,15 @@
 -- A closed walk comes back to its least line over lines that are not less.
-use Rattle.std.proofs.Common.{◌≡◌, ◌≢◌, ◌⊎◌, inl, inr, refl, sym, ◌∙◌, ℕ, ◌+◌, ◌<◌, ◌≤◌, Bool, List, [], ◌∷◌, ◌++◌, length, arith}
+use Rattle.std.proofs.Common.{◌≡◌, inl, inr, refl, ℕ, ◌<◌, ◌≤◌, Bool, List, [], ◌∷◌, ◌++◌, length, arith}
 use Rattle.std.specs.Prelude.{◌↔◌}
 use Rattle.std.proofs.lemmas.Bool.{cases_lt}
 use Rattle.il_core.specs.LineGraph.{IsIn}
-use Rattle.flow_graph.specs.Search.{IsWalk, IsFound, IsMarked, IsUnmarked, row_of}
+use Rattle.flow_graph.specs.Search.{IsWalk, IsFound, IsMarked, row_of}
 use Rattle.flow_graph.proofs.Members.{IsIn-push_cases}
 use Rattle.flow_graph.proofs.Spreading.{walk_on}
 use Rattle.control_flow.specs.Forward.{AreRows, InRow, ComesBack}
 use Rattle.control_flow.proofs.Listing.{not_both, unmarked_from}
 use Rattle.control_flow.proofs.Walks.{arc_into, around}
-use Rattle.control_flow.proofs.Ways.{Way, way_found}
+use Rattle.control_flow.proofs.Ways.{way_found}
 
 -- the least of some lines
 record Least (lines : List ℕ) : Type 0 where

@@ -6,3 +6,5 @@ pub mod Splits
 pub mod Pigeons
 pub mod OneEntry
 pub mod ComingBack
+pub mod Showing
+pub mod Stuck

@@ -1,18 +1,17 @@
 -- Cycles that all walks enter at one line: that line stands before each line of the cycle, and is a loop head.
-use Rattle.std.proofs.Common.{◌≡◌, ◌≢◌, ◌⊎◌, inl, inr, refl, sym, ◌∙◌, ℕ, List, [], ◌∷◌, ◌++◌}
-use Rattle.std.specs.Prelude.{◌↔◌}
+use Rattle.std.proofs.Common.{◌≡◌, inl, inr, refl, sym, ◌∙◌, ℕ, List, [], ◌∷◌, ◌++◌}
 use Rattle.std.proofs.lemmas.Bool.{cases_eq}
 use Rattle.il_core.specs.LineGraph.{IsIn}
 use Rattle.flow_graph.specs.Graph.{Joins}
 use Rattle.flow_graph.specs.Search.{IsWalk}
 use Rattle.flow_graph.specs.Reached.{IsReached}
-use Rattle.flow_graph.specs.Meeting.{Meets, IsMetAt, IsOnEvery}
+use Rattle.flow_graph.specs.Meeting.{IsMetAt, IsOnEvery}
 use Rattle.flow_graph.specs.declared.graph.Arc.{Arc}
 use Rattle.flow_graph.proofs.Members.{IsIn-push_cases}
-use Rattle.flow_graph.proofs.Spreading.{walk_on, walk_along}
-use Rattle.control_flow.specs.Cycle.{IsTwiceEntered, HasTwiceEntered, IsReducible}
-use Rattle.control_flow.specs.Loop.{IsBackArc, IsHead}
-use Rattle.control_flow.specs.Forward.{AreRows, InRow, IsForward, IsReachedAround}
+use Rattle.flow_graph.proofs.Spreading.{walk_on}
+use Rattle.control_flow.specs.Cycle.{IsTwiceEntered, IsReducible}
+use Rattle.control_flow.specs.Loop.{IsHead}
+use Rattle.control_flow.specs.Forward.{AreRows, InRow, IsForward}
 use Rattle.control_flow.proofs.Walks.{in_or, walk_end, walk_join, walk_cut, first_meeting, met_inside, met_walk, met_only, arc_into, around}
 use Rattle.control_flow.proofs.Pigeons.{closing, first_or}
 
@@ -29,26 +28,31 @@ head_on_cycle arcs a b lines red reached w =
     let t = first_meeting (Joins arcs) (a ∷ b ∷ lines) 0 reached.0 a reached.1 (inl refl) in
     let inside = met_inside (Joins arcs) (IsIn (a ∷ b ∷ lines)) 0 t.1 t.0 t.2 in
     let u = arc_into (Joins arcs) a b lines t.0 w inside in
-    let k = walk_cut (Joins arcs) a (b ∷ lines) a u.0 w u.2 in
-    (t.0, inside, (u.0, record {
-      arc = u.1;
-      reached = (reached.0 ++ k.front, walk_join (Joins arcs) 0 reached.0 a k.front u.0 reached.1 k.to);
-      through = one_entry (Joins arcs) 0 (a ∷ b ∷ lines) t.0 (same t.0 (t.1, t.2)) u.0 u.2;
-    }))
+    let k = walk_cut (Joins arcs) a (b ∷ lines) a u.0 w u.2 in (
+      t.0,
+      inside,
+      (
+        u.0,
+        record {
+          arc = u.1;
+          reached = (reached.0 ++ k.front, walk_join (Joins arcs) 0 reached.0 a k.front u.0 reached.1 k.to);
+          through = one_entry (Joins arcs) 0 (a ∷ b ∷ lines) t.0 (same t.0 (t.1, t.2)) u.0 u.2;
+        },
+      ),
+    )
   where
     same : (x : ℕ) → IsMetAt (Joins arcs) 0 (IsIn (a ∷ b ∷ lines)) x → (y : ℕ) → IsMetAt (Joins arcs) 0 (IsIn (a ∷ b ∷ lines)) y → y ≡ x
     same x mx y my = elim (cases_eq y x) [ inl e ↦ e | inr n ↦ absurd (red (a, b, lines, w, (y, x, my, mx, n))) ]
 
--- a cycle of forward arcs has more than one entry
-pub two_entries : (arcs : List Arc) (a b : ℕ) (lines : List ℕ) (x : ℕ) → IsWalk (IsForward arcs) a (b ∷ lines) a
-    → ((y : ℕ) → IsMetAt (Joins arcs) 0 (IsIn (a ∷ b ∷ lines)) y → y ≡ x) → ⊥
-two_entries arcs a b lines x w one =
-    let r = w.0.1 in
-    let t = first_meeting (Joins arcs) (a ∷ b ∷ lines) 0 r.0 a r.1 (inl refl) in
-    let inside = met_inside (Joins arcs) (IsIn (a ∷ b ∷ lines)) 0 t.1 t.0 t.2 in
-    let u = arc_into (IsForward arcs) a b lines x w (rw (one t.0 (t.1, t.2)) at inside) in
+-- a set into each line of which a forward arc goes from inside has more than one entry
+pub two_entries : (arcs : List Arc) (set : List ℕ) (x a : ℕ) → IsIn set a → IsReached arcs a → ((m : ℕ) → IsIn set m → (u : ℕ) × IsForward arcs u m × IsIn set u)
+    → ((y : ℕ) → IsMetAt (Joins arcs) 0 (IsIn set) y → y ≡ x) → ⊥
+two_entries arcs set x a i reached before one =
+    let t = first_meeting (Joins arcs) set 0 reached.0 a reached.1 i in
+    let inside = met_inside (Joins arcs) (IsIn set) 0 t.1 t.0 t.2 in
+    let u = before x (rw (one t.0 (t.1, t.2)) at inside) in
     let f = u.1.1 in
-    f.2 (one_entry (Joins arcs) 0 (a ∷ b ∷ lines) x one u.0 u.2 f.0 f.1)
+    f.2 (one_entry (Joins arcs) 0 set x one u.0 u.2 f.0 f.1)
 
 -- a line before which each tail of an arc to it from a set stands, stands before each line that comes to it inside the set
 back_along : (E : ℕ → ℕ → Type 0) (r m : ℕ) (set : List ℕ) → ((c : ℕ) → IsIn set c → E c m → IsOnEvery E r m c) → (c : ℕ) (lines : List ℕ) → IsWalk E c lines m

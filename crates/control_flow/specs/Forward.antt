@@ -1,5 +1,5 @@
 -- Rows of the lines behind and before a line, and arcs that go forward: some walk from line 0 comes to the tail without passing the head.
-use Rattle.std.specs.Prelude.{◌≡◌, ◌↔◌, ℕ, ◌<◌, ◌≤◌, Bool, Some, List, ◌∷◌, length, slice_get}
+use Rattle.std.specs.Prelude.{◌≡◌, ◌≢◌, ◌↔◌, ℕ, ◌<◌, ◌≤◌, Bool, Some, List, [], ◌∷◌, length, slice_get}
 use Rattle.il_core.specs.LineGraph.{IsIn}
 use Rattle.flow_graph.specs.Graph.{Joins}
 use Rattle.flow_graph.specs.Search.{IsWalk, IsMarked, IsUnmarked, row_of}
@@ -54,3 +54,7 @@ InRow rows a b = IsIn (row_of rows a) b
 -- a closed walk of at least one arc goes from line a over lines that are not less than a
 abbrev pub ComesBack : List (List ℕ) → ℕ → Type 0
 ComesBack rows a = (b : ℕ) × (lines : List ℕ) × IsWalk (InRow rows) a (b ∷ lines) a × ((j : ℕ) → IsIn (b ∷ lines) j → a ≤ j)
+
+-- line k is marked, and entered from a line to which there is a path
+abbrev pub IsEntered : List (List ℕ) → List Bool → List (List ℕ) → ℕ → Type 0
+IsEntered tails marks paths k = IsMarked marks k × ((u : ℕ) × IsIn (row_of tails k) u × (row_of paths u ≢ []))

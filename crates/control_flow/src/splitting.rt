@@ -17,6 +17,7 @@ use il_core::{List, NoMemory};
 use std::alloc::Global;
 
 /// The loops of a graph, and for each line those to which arcs go forward from it.
+#[derive(Drop)]
 pub struct ArcSplit {
     pub loops: List<LoopInfo>,
     pub forward: List<List<usize>>,

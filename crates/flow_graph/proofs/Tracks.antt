@@ -86,7 +86,7 @@ pub record Tracking (rows : List (List ℕ)) (blocked : List Bool) (start : ℕ)
   pub none : (k : ℕ) → IsUnmarked marks k → row_of paths k ≡ []
 
 -- a path that is lengthened by a line that is not on it
-differ_push : (xs : List ℕ) (x : ℕ) → Differ xs → (IsIn xs x → ⊥) → Differ (xs ++ x ∷ [])
+pub differ_push : (xs : List ℕ) (x : ℕ) → Differ xs → (IsIn xs x → ⊥) → Differ (xs ++ x ∷ [])
 differ_push [] x d n = (λ i. i, tt)
 differ_push (y ∷ xs) x d n = (λ i. elim (IsIn-push_cases xs x y i) [ inl old ↦ d.0 old | inr new ↦ n (inl (sym new)) ], differ_push xs x d.1 (λ i. n (inr i)))
 

@@ -1,4 +1,4 @@
-use Rattle.std.proofs.Common.{◌≡◌, ◌<◌, ℕ, length, refl, arith, below_more}
+use Rattle.std.proofs.Common.{arith, below_more}
 use Rattle.control_flow.specs.Forward.{ComesBack}
 use Rattle.control_flow.proofs.ComingBack.{none_closed}
 use Rattle.control_flow.proofs.OneEntry.{reducible_from}
