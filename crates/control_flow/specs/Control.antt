@@ -1,6 +1,5 @@
 -- The control structure of a graph: its unreachable and stuck lines, its loops by their heads, and a cycle with two entries where there is one.
 use Rattle.std.specs.Prelude.{◌≡◌, ℕ, ◌+◌, ◌<◌, List, map, length, slice_get, Some}
-use Rattle.il_core.specs.LineGraph.{IsIn}
 use Rattle.flow_graph.specs.Graph.{Joins}
 use Rattle.flow_graph.specs.Search.{Reaches}
 use Rattle.flow_graph.specs.Reached.{IsReached, Lists}
@@ -9,7 +8,6 @@ use Rattle.control_flow.specs.Cycle.{IsReducible, ShowsTwoEntries}
 use Rattle.control_flow.specs.Loop.{IsHead, IsMember, IsLeading}
 use Rattle.control_flow.specs.declared.control.Control.{Control}
 use Rattle.control_flow.specs.declared.control.LoopInfo.{LoopInfo}
-use Rattle.control_flow.specs.declared.control.Entries.{Entries}
 use Rattle.control_flow.specs.declared.control.Shape.{Shape}
 use Rattle.control_flow.specs.declared.control.Shape.TheVariants.{Reducible, TwoEntries}
 

@@ -1,3 +1,5 @@
 pub mod Cycle
 pub mod Loop
 pub mod Control
+pub mod Forward
+pub mod Laws

@@ -3,3 +3,4 @@ pub mod PlaceBits
 pub mod LineArcs
 pub mod Spreading
 pub mod Formed
+pub mod Tracks

@@ -5,4 +5,5 @@ pub mod Search
 pub mod Reached
 pub mod Meeting
 pub mod Expansion
+pub mod Paths
 pub mod Laws

@@ -10,12 +10,14 @@ mod building;
 mod graph;
 mod laws;
 mod masks;
+mod paths;
 mod rows;
 mod searching;
 
 pub use building::build;
 pub use graph::{Arc, FlowGraph, Node, NodeKind};
 pub use laws::{steps_go_along_arcs, walks_are_paths};
+pub use paths::paths_from;
 pub use rows::{predecessors, successors};
 pub use searching::{reachable, search};
 

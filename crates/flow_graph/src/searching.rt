@@ -11,14 +11,14 @@ use il_core::{List, NoMemory};
 use std::alloc::Global;
 
 /// `count` marks, none of which is set.
-fn no_marks(alloc: Global, count: usize) -> Result<Vec<bool>, NoMemory>
+pub fn no_marks(alloc: Global, count: usize) -> Result<Vec<bool>, NoMemory>
     ensures { IfOk result (λ v. v.items ≡ replicate count false) }
 {
     Ok(vec![in alloc; false; count]?)
 }
 
 /// The row at `at`.
-fn row_at(rows: &[List<usize>], at: usize) -> &[usize]
+pub fn row_at(rows: &[List<usize>], at: usize) -> &[usize]
     requires { at < length rows.now }
     ensures { result.now ≡ row_of rows.now at }
 {
@@ -35,7 +35,7 @@ fn is_open(blocked: &[bool], marked: &Vec<bool>, at: usize) -> bool
 }
 
 /// Marks each line of `row` that is neither blocked nor marked, and adds it to the work.
-fn expand(
+pub fn expand(
     row: &[usize],
     blocked: &[bool],
     marked: &mut Vec<bool>,
