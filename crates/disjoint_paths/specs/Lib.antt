@@ -1,1 +1,5 @@
 pub mod Pair
+pub mod FirstPath
+pub mod Fan
+pub mod Widening
+pub mod Asked

@@ -2,5 +2,6 @@
 #![tactic(auto)]
 
 mod pair;
+mod widening;
 
 pub use pair::Pair;
