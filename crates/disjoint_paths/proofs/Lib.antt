@@ -2,3 +2,5 @@ pub mod Lists
 pub mod Walks
 pub mod Cuts
 pub mod Openings
+pub mod Fans
+pub mod Replays
