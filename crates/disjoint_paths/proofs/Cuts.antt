@@ -1,8 +1,8 @@
 -- Where all ways out of a set of lines without targets go through one line, there is no pair of paths.
-use Rattle.std.proofs.Common.{◌≡◌, ◌≢◌, ◌⊎◌, inl, inr, refl, sym, ◌∙◌, ℕ, List, [], ◌∷◌}
+use Rattle.std.proofs.Common.{◌≡◌, ◌⊎◌, inl, inr, refl, ℕ, List, [], ◌∷◌}
 use Rattle.il_core.specs.LineGraph.{IsIn}
 use Rattle.flow_graph.specs.Search.{IsWalk}
-use Rattle.disjoint_paths.specs.Pair.{LeadsTo, ArePaths, HasPair}
+use Rattle.disjoint_paths.specs.Pair.{LeadsTo, HasPair}
 
 -- each arc out of the set R enters the cut C, which is one line at most and not line t, or a line of R that is no target
 pub record IsCut (E : ℕ → ℕ → Type 0) (P : ℕ → Type 0) (t : ℕ) (R C : ℕ → Type 0) : Type 0 where

@@ -1,9 +1,8 @@
 -- Fans of open lines: where they begin, how a step and a jump carry them on, and how they end in two paths.
-use Rattle.std.proofs.Common.{◌≡◌, ◌≢◌, ◌⊎◌, inl, inr, refl, sym, ap, ◌∙◌, ℕ, zero, suc, ◌+◌, ◌-◌, ◌<◌, ◌≤◌, List, [], ◌∷◌, ◌++◌, length, drop, take, get_or, arith}
+use Rattle.std.proofs.Common.{◌≡◌, ◌⊎◌, inl, inr, refl, sym, ap, ◌∙◌, ℕ, ◌+◌, ◌<◌, ◌≤◌, List, [], ◌∷◌, ◌++◌, length, drop, get_or, arith}
 use Rattle.std.proofs.lemmas.List.{append_assoc, drop_more, length_push, length-append, length-drop, get_or_append_left}
 use Rattle.il_core.specs.LineGraph.{IsIn}
 use Rattle.flow_graph.specs.Search.{IsWalk}
-use Rattle.flow_graph.specs.Reached.{Differ}
 use Rattle.flow_graph.proofs.Members.{IsIn-append_left, IsIn-append_right, IsIn-append_cases, IsIn-push_cases, IsIn-get_or}
 use Rattle.flow_graph.proofs.Spreading.{walk_on}
 use Rattle.disjoint_paths.specs.Pair.{ArePaths}

@@ -4,3 +4,4 @@ pub mod Cuts
 pub mod Openings
 pub mod Fans
 pub mod Replays
+pub mod Starts

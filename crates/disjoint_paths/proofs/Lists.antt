@@ -1,9 +1,9 @@
 -- Lists whose members differ, members and their places, and parts of lists.
-use Rattle.std.proofs.Common.{◌≡◌, ◌⊎◌, inl, inr, refl, sym, ap, ◌∙◌, ℕ, zero, suc, ◌+◌, ◌-◌, ◌<◌, ◌≤◌, List, [], ◌∷◌, ◌++◌, length, take, drop, map, get_or, arith}
+use Rattle.std.proofs.Common.{◌≡◌, inl, inr, refl, sym, ap, ◌∙◌, ℕ, zero, suc, ◌+◌, ◌-◌, ◌<◌, ◌≤◌, List, [], ◌∷◌, ◌++◌, length, take, drop, get_or, arith}
 use Rattle.std.proofs.lemmas.List.{take-append-drop, drop-drop, length-take, length-drop, get_or-take, get_or-drop, take_more, append_assoc}
 use Rattle.il_core.specs.LineGraph.{IsIn}
 use Rattle.flow_graph.specs.Reached.{Differ}
-use Rattle.flow_graph.proofs.Members.{IsIn-append_left, IsIn-append_right, IsIn-append_cases, IsIn-get_or}
+use Rattle.flow_graph.proofs.Members.{IsIn-append_left, IsIn-append_right, IsIn-append_cases}
 
 -- joined lists differ where each does and no member is in both
 pub Differ-append : (xs ys : List ℕ) → Differ xs → Differ ys → ((v : ℕ) → IsIn xs v → IsIn ys v → ⊥) → Differ (xs ++ ys)

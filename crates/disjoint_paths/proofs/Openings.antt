@@ -1,5 +1,5 @@
 -- What one open line more does to the state of a search.
-use Rattle.std.proofs.Common.{◌≡◌, ◌≢◌, ◌⊎◌, inl, inr, refl, sym, ap, ◌∙◌, ℕ, zero, suc, ◌+◌, ◌<◌, ◌≤◌, Bool, true, false, cond, List, [], ◌∷◌, ◌++◌, length, map, take, set, get_or, arith}
+use Rattle.std.proofs.Common.{◌≡◌, ◌≢◌, ◌⊎◌, inl, inr, refl, sym, ap, ◌∙◌, ℕ, ◌+◌, ◌<◌, ◌≤◌, cond, List, [], ◌∷◌, ◌++◌, length, take, set, get_or, arith}
 use Rattle.std.specs.List.{count_by}
 use Rattle.std.proofs.lemmas.Bool.Decides.{eqb_tells}
 use Rattle.std.proofs.lemmas.List.{length-set, length_push, map-append, take-append-le, take_at, get_or_append_left, get_or_push, get_or_read, get_or-set_same, get_or-set_other}
@@ -8,10 +8,10 @@ use Rattle.il_core.specs.LineGraph.{IsIn}
 use Rattle.flow_graph.specs.Search.{row_of}
 use Rattle.flow_graph.proofs.Members.{IsIn-append_left, IsIn-push, IsIn-push_cases, IsIn-get_or, IsIn-more_cases}
 use Rattle.disjoint_paths.specs.FirstPath.{IsInside, IsFirstPath}
-use Rattle.disjoint_paths.specs.Widening.{IsOpening, IsStep, IsJump, AreOpened, IsWidening, IsGrown, IsKept, Suits, role_at, opened_at, line_of, lines_of, is_far}
+use Rattle.disjoint_paths.specs.Widening.{IsOpening, AreOpened, IsWidening, IsGrown, IsKept, Suits, role_at, opened_at, line_of, lines_of, is_far}
 use Rattle.disjoint_paths.specs.declared.widening.Role.{Role}
 use Rattle.disjoint_paths.specs.declared.widening.Role.TheVariants.{Far, OnPath, Open}
-use Rattle.disjoint_paths.specs.declared.widening.Origin.TheVariants.{Tail, Step, Jump}
+use Rattle.disjoint_paths.specs.declared.widening.Origin.TheVariants.{Step, Jump}
 use Rattle.disjoint_paths.specs.declared.widening.Opened.{Opened}
 
 -- the lines behind one more

@@ -1,13 +1,13 @@
 -- The fan of an open line from the fan of the open line from which it came to be open.
-use Rattle.std.proofs.Common.{◌≡◌, ◌≢◌, ◌⊎◌, inl, inr, refl, sym, ap, ◌∙◌, ℕ, zero, suc, ◌+◌, ◌-◌, ◌<◌, ◌≤◌, List, [], ◌∷◌, ◌++◌, length, map, drop, take, get_or, arith}
+use Rattle.std.proofs.Common.{◌≡◌, inl, inr, ap, ◌∙◌, ℕ, ◌+◌, ◌<◌, ◌≤◌, List, [], ◌∷◌, ◌++◌, length, take, arith}
 use Rattle.std.proofs.lemmas.List.{length-take-le, get_or-take, take_more, take-map}
 use Rattle.il_core.specs.LineGraph.{IsIn}
 use Rattle.disjoint_paths.specs.declared.pair.Pair.{Pair}
 use Rattle.disjoint_paths.specs.declared.widening.Origin.TheVariants.{Tail, Step, Jump}
 use Rattle.disjoint_paths.specs.declared.widening.Opened.{Opened}
 use Rattle.disjoint_paths.specs.FirstPath.{IsFirstPath}
-use Rattle.disjoint_paths.specs.Fan.{IsFan, HasFan}
-use Rattle.disjoint_paths.specs.Widening.{IsOpening, IsStep, IsJump, AreOpened, opened_at, line_of, lines_of}
+use Rattle.disjoint_paths.specs.Fan.{HasFan}
+use Rattle.disjoint_paths.specs.Widening.{IsStep, IsJump, AreOpened, opened_at, line_of, lines_of}
 use Rattle.disjoint_paths.proofs.Lists.{IsIn-take, part}
 use Rattle.disjoint_paths.proofs.Openings.{line_new, last_or_less}
 use Rattle.disjoint_paths.proofs.Fans.{fan_start, fan_step, fan_jump}

@@ -1,5 +1,5 @@
 -- A fan of a line: a path to it from line t, and another from line t to a line of the first path and on along that; no line stands on both.
-use Rattle.std.specs.Prelude.{◌≡◌, ℕ, ◌+◌, List, ◌∷◌, ◌++◌, drop, take}
+use Rattle.std.specs.Prelude.{◌≡◌, ℕ, List, ◌∷◌, ◌++◌, drop}
 use Rattle.il_core.specs.LineGraph.{IsIn}
 use Rattle.flow_graph.specs.Search.{IsWalk}
 use Rattle.flow_graph.specs.Reached.{Differ}

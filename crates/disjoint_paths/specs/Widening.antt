@@ -1,9 +1,9 @@
 -- The search for a second path beside a first one: each open line has a fan, and every line is far, on the first path or open.
-use Rattle.std.specs.Prelude.{◌≡◌, ◌≢◌, ◌⊎◌, ℕ, ◌+◌, ◌<◌, ◌≤◌, Bool, true, false, List, ◌++◌, [], ◌∷◌, length, map, take, drop, slice_index, slice_index_or}
+use Rattle.std.specs.Prelude.{◌≡◌, ◌≢◌, ◌⊎◌, ℕ, ◌+◌, ◌<◌, ◌≤◌, Bool, true, false, List, length, map, take, slice_index, slice_index_or}
 use Rattle.std.specs.List.{count_by}
 use Rattle.il_core.specs.LineGraph.{IsIn}
-use Rattle.flow_graph.specs.Search.{IsWalk, AreBelow}
-use Rattle.disjoint_paths.specs.FirstPath.{IsInside, IsFirstPath}
+use Rattle.flow_graph.specs.Search.{AreBelow}
+use Rattle.disjoint_paths.specs.FirstPath.{IsInside}
 use Rattle.disjoint_paths.specs.declared.widening.Role.{Role}
 use Rattle.disjoint_paths.specs.declared.widening.Role.TheVariants.{Far, OnPath, Open}
 use Rattle.disjoint_paths.specs.declared.widening.Origin.{Origin}

@@ -3,6 +3,9 @@
 
 mod fan;
 mod pair;
+mod paths;
+mod start;
 mod widening;
 
 pub use pair::Pair;
+pub use paths::{pair_from, two_paths};

@@ -82,7 +82,7 @@ pub struct Widening {
 
 impl<'a> Question<'a> {
     /// The lines that follow `line`.
-    fn row(&self, line: usize) -> &'a [usize]
+    pub fn row(&self, line: usize) -> &'a [usize]
         requires { line < length self.now.rows.now }
         ensures { result.now ≡ row_of self.now.rows.now line }
     {
@@ -146,7 +146,7 @@ impl Widening {
     }
 
     /// Opens what arcs from the open line of number `before` let be open; a target at which a second path may end.
-    fn visit(&mut self, asked: &Question, before: usize) -> Result<Option<usize>, NoMemory>
+    pub fn visit(&mut self, asked: &Question, before: usize) -> Result<Option<usize>, NoMemory>
         requires asked { IsAsked asked.now }
         requires state { IsState asked.now self.old }
         requires known { before < length self.old.opened.items }

@@ -1,4 +1,4 @@
-use Rattle.std.proofs.Common.{◌≡◌, ◌∙◌, refl, ◌<◌, ◌≤◌, ◌+◌, ℕ, length, get_or, arith}
+use Rattle.std.proofs.Common.{refl, ◌<◌, ◌≤◌, length, arith}
 use Rattle.flow_graph.proofs.Members.{IsIn-get_or}
 use Rattle.disjoint_paths.specs.Widening.{opened_at}
 use Rattle.disjoint_paths.specs.Asked.{arcs_of, targets_of}

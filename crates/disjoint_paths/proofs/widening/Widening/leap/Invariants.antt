@@ -1,4 +1,4 @@
-use Rattle.std.proofs.Common.{◌≡◌, length}
+use Rattle.std.proofs.Common.{length}
 use Rattle.disjoint_paths.specs.Widening.{IsWidening, IsGrown}
 use Rattle.disjoint_paths.specs.Asked.{arcs_of, targets_of}
 use Rattle.disjoint_paths.proofs.widening.Widening.leap.Given as goal

@@ -1,8 +1,6 @@
-use Rattle.std.proofs.Common.{◌≡◌, ◌∙◌, inl, inr, refl, sym, ap, ◌<◌, ◌≤◌, ◌+◌, ℕ, length, get_or, arith, []}
+use Rattle.std.proofs.Common.{inl, inr, ap, ◌<◌, length, get_or, arith}
 use Rattle.std.proofs.lemmas.List.{get_or_read, take_all}
-use Rattle.flow_graph.specs.Search.{row_of}
 use Rattle.il_core.specs.LineGraph.{IsIn}
-use Rattle.disjoint_paths.specs.Widening.{opened_at, lines_of}
 use Rattle.disjoint_paths.specs.declared.widening.Opened.{Opened}
 use Rattle.disjoint_paths.specs.declared.widening.Origin.TheVariants.{Tail}
 use Rattle.disjoint_paths.specs.Asked.{arcs_of, targets_of}
