@@ -9,3 +9,6 @@ mod widening;
 
 pub use pair::Pair;
 pub use paths::{pair_from, two_paths};
+
+#[cfg(test)]
+mod tests;
