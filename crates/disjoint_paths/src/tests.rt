@@ -1,4 +1,5 @@
-ghost use Rattle.std.specs.Prelude.{◌≡◌, ◌<◌, ◌∷◌, ◌++◌, [], ℕ, length, slice_set, slice_index_or, IfOk};
+ghost use Rattle.std.specs.Prelude.{◌≡◌, ◌<◌, ◌∷◌, ◌++◌, [], ℕ, length, slice_set, slice_index_or, None, IfOk};
+ghost use Rattle.flow_graph.specs.Graph.{IsWellFormed};
 ghost use Rattle.il_core.specs.LineGraph.{IsIn};
 ghost use Rattle.flow_graph.specs.Search.{StayBelow, row_of};
 
@@ -112,5 +113,45 @@ fn a_path_may_come_back_to_the_tail(rt: HostRuntime) -> Result<(), Fail> {
     let arcs = [(1, 2), (1, 3), (2, 1)];
     let found = asked(rt.alloc(), &arcs, 1, &[1, 3])?;
     assert!(rt; is_pair(&found, &[1, 2, 1], &[1, 3]));
+    Ok(())
+}
+
+/// A line of this kind that reads and writes nothing.
+fn node(kind: NodeKind) -> Node
+    ensures { result ≡ record { kind = kind; reads = 0; writes = None; last_reads = 0 } }
+{
+    Node {
+        kind,
+        reads: 0,
+        writes: None,
+        last_reads: 0,
+    }
+}
+
+/// The graph of a test with one arm, which meets its other way at the end.
+fn one_arm(alloc: Global) -> Result<FlowGraph, NoMemory>
+    ensures formed { IfOk result (λ graph. IsWellFormed graph) }
+    ensures size { IfOk result (λ graph. length graph.nodes ≡ 4) }
+{
+    let mut nodes = List::new(alloc);
+    nodes.push(node(NodeKind::Other))?;
+    nodes.push(node(NodeKind::Test))?;
+    nodes.push(node(NodeKind::Plain))?;
+    nodes.push(node(NodeKind::Last))?;
+    let mut arcs = List::new(alloc);
+    arcs.push(Arc { tail: 0, head: 1 })?;
+    arcs.push(Arc { tail: 1, head: 2 })?;
+    arcs.push(Arc { tail: 1, head: 3 })?;
+    arcs.push(Arc { tail: 2, head: 3 })?;
+    Ok(FlowGraph { nodes, arcs })
+}
+
+#[test]
+fn asks_a_graph(rt: HostRuntime) -> Result<(), Fail> {
+    let graph = one_arm(rt.alloc())?;
+    let both = two_paths(rt.alloc(), &graph, 1, &[false, false, true, true])?;
+    assert!(rt; is_pair(&both, &[1, 2], &[1, 3]));
+    let end = two_paths(rt.alloc(), &graph, 1, &[false, false, false, true])?;
+    assert!(rt; end.is_none());
     Ok(())
 }
