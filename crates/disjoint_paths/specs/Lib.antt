@@ -1,1 +1,7 @@
 pub mod Pair
+pub mod FirstPath
+pub mod Fan
+pub mod Widening
+pub mod Roles
+pub mod Asked
+pub mod Widened

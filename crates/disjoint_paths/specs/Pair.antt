@@ -1,5 +1,5 @@
 -- Two paths of at least one arc from a line to a set of lines, which share the line from which they start alone.
-use Rattle.std.specs.Prelude.{◌≡◌, ◌⊎◌, ℕ, List, [], ◌∷◌}
+use Rattle.std.specs.Prelude.{◌≡◌, ℕ, List, [], ◌∷◌}
 use Rattle.il_core.specs.LineGraph.{IsIn}
 use Rattle.flow_graph.specs.Search.{IsWalk}
 use Rattle.disjoint_paths.specs.declared.pair.Pair.{Pair}
