@@ -1,0 +1,14 @@
+pub mod Meetings
+pub mod TwoRuns
+pub mod Alike
+pub mod Stepping
+pub mod Outside
+pub mod LineRuns
+pub mod PlaceMasks
+pub mod Growing
+pub mod Passing
+pub mod Deciding
+pub mod Leasts
+pub mod Listing
+pub mod Rows
+pub mod PairsOfPaths

@@ -1,0 +1,4 @@
+pub mod Relevance
+pub mod Agreement
+pub mod Sources
+pub mod Growth
