@@ -1,7 +1,8 @@
-//! Blocks and labels of the statements of a text: whether each ELSE, ENDIF, ENDLOOP and ENDPROC closes the innermost open
-//! block, each EXIT stands in a loop, each label of a procedure stands once and each GOTO names one; or the first statement
-//! at which that fails. One pass keeps the stack of the open blocks, another one a hash table of the labels, so the time is
-//! linear in the statements.
+//! Blocks, labels and lines of the statements of a text: whether each ELSE, ENDIF, ENDLOOP and ENDPROC closes the innermost
+//! open block, each EXIT stands in a loop, each label of a procedure stands once and each GOTO names one; or the first
+//! statement at which that fails. Where all of it holds, the line of each statement and the line to which it may jump. Open
+//! blocks are kept on a stack (Friedrich Bauer and Klaus Samelson, 1960) and labels in a hash table, so the time is linear
+//! in the statements.
 #![tactic(auto)]
 
 mod block;
