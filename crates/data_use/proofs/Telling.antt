@@ -10,8 +10,8 @@ use Rattle.flow_graph.specs.declared.graph.FlowGraph.{FlowGraph}
 use Rattle.flow_graph.proofs.Members.{IsIn-push_cases, IsIn-push, IsIn-append_left, IsIn-append_right}
 use Rattle.regular_algebra.specs.declared.relation.BitRelation.{BitRelation}
 use Rattle.data_use.specs.Events.{Event}
-use Rattle.data_use.specs.Facts.{Happens, HappensToLast, IsUseRow, AddsRows, variables_from, place_of}
-use Rattle.data_use.specs.Sums.{AreSums, IsFullOrder, TellsRow}
+use Rattle.data_use.specs.Facts.{Happens, HappensToLast, IsUseRow, variables_from, place_of}
+use Rattle.data_use.specs.Sums.{AreSums, IsFullOrder, TellsRow, AddsRows}
 use Rattle.data_use.specs.declared.points.Point.TheVariants.{Fresh, ReadFirst, Any, ReadOnce, WrittenOnce, JustWritten, Overwritten}
 use Rattle.data_use.specs.declared.row.UseRow.{UseRow}
 use Rattle.data_use.proofs.Patterns.{leads-read_first, leads-overwritten, leads-written_last, leads-read, leads-written, leads-unwritten}

@@ -1,5 +1,5 @@
 -- A variable's row has six facts about its events along the walks from line 0, all lines of a walk included.
-use Rattle.std.specs.Prelude.{◌≡◌, ◌↔◌, ◌⊎◌, ℕ, suc, ◌+◌, IsTrue, if◌then◌else◌, List, [], ◌∷◌, ◌++◌, length, map}
+use Rattle.std.specs.Prelude.{◌≡◌, ◌↔◌, ℕ, suc, ◌+◌, IsTrue, if◌then◌else◌, List, [], ◌∷◌, ◌++◌, length}
 use Rattle.il_core.specs.LineGraph.{IsIn}
 use Rattle.il_core.specs.Run.{is_variable}
 use Rattle.il_core.specs.declared.line.Place.{Place}
@@ -21,9 +21,11 @@ IsOverwritten es = (before : List Event) × (after : List Event) × (es ≡ befo
 abbrev pub IsWrittenLast : List Event → Type 0
 IsWrittenLast es = (before : List Event) × (es ≡ before ++ write ∷ [])
 
+-- it is read at some time
 abbrev pub IsRead : List Event → Type 0
 IsRead es = IsIn es read
 
+-- it is written at some time
 abbrev pub IsWritten : List Event → Type 0
 IsWritten es = IsIn es write
 
@@ -39,6 +41,7 @@ Happens g v P = (x : ℕ) × HappensAt g v P x
 abbrev pub HappensToLast : FlowGraph → ℕ → (List Event → Type 0) → Type 0
 HappensToLast g v P = (x : ℕ) × (x + 1 ≡ length g.nodes) × HappensAt g v P x
 
+-- the facts of a row, each both ways
 pub record IsUseRow (g : FlowGraph) (row : UseRow) : Type 0 where
   pub read_first : IsTrue row.read_first ↔ Happens g row.place IsReadFirst
   pub overwritten : IsTrue row.overwritten ↔ Happens g row.place IsOverwritten
@@ -47,15 +50,11 @@ pub record IsUseRow (g : FlowGraph) (row : UseRow) : Type 0 where
   pub never_written : IsTrue row.never_written ↔ (Happens g row.place IsWritten → ⊥)
   pub end_unwritten : IsTrue row.end_unwritten ↔ HappensToLast g row.place (λ es. IsWritten es → ⊥)
 
--- the numbers of the variables among places that are numbered from k on
+-- the numbers of the variables, which are the places that are no OLD copies, among places that are numbered from k on
 abbrev pub variables_from : ℕ → List Place → List ℕ
 variables_from k [] = []
 variables_from k (p ∷ ps) = if is_variable p then k ∷ variables_from (suc k) ps else variables_from (suc k) ps
 
+-- the variable of a row
 abbrev pub place_of : UseRow → ℕ
 place_of row = row.place
-
--- rows of these variables are added
-pub record AddsRows (g : FlowGraph) (variables : List ℕ) (old new : List UseRow) : Type 0 where
-  pub places : map place_of new ≡ map place_of old ++ variables
-  pub facts : (row : UseRow) → IsIn new row → IsIn old row ⊎ IsUseRow g row

@@ -1,5 +1,5 @@
 -- The sum over walks joins two points of a variable where the events of some walk lead from one to the other; the rows are told by it.
-use Rattle.std.specs.Prelude.{◌≡◌, ◌⊎◌, ◌↔◌, ℕ, ◌+◌, ◌*◌, Some, IsTrue, List, length, slice_get}
+use Rattle.std.specs.Prelude.{◌≡◌, ◌⊎◌, ◌↔◌, ℕ, ◌+◌, ◌*◌, Some, IsTrue, List, ◌++◌, length, map, slice_get}
 use Rattle.il_core.specs.LineGraph.{IsIn}
 use Rattle.flow_graph.specs.Reached.{IsInner, Differ}
 use Rattle.flow_graph.specs.declared.graph.Arc.{Arc}
@@ -9,12 +9,13 @@ use Rattle.regular_algebra.specs.Relation.{Joins}
 use Rattle.regular_algebra.specs.declared.steps.Ends.{Ends}
 use Rattle.regular_algebra.specs.declared.steps.Entry.{Entry}
 use Rattle.regular_algebra.specs.declared.relation.BitRelation.{BitRelation}
-use Rattle.data_use.specs.Facts.{Happens, HappensToLast}
+use Rattle.data_use.specs.Facts.{Happens, HappensToLast, IsUseRow, place_of}
 use Rattle.data_use.specs.Points.{Leads, number, Carries}
 use Rattle.data_use.specs.declared.points.Point.{Point}
 use Rattle.data_use.specs.declared.points.Point.TheVariants.{Fresh, ReadFirst, Any, ReadOnce, WrittenOnce, JustWritten, Overwritten}
 use Rattle.data_use.specs.declared.row.UseRow.{UseRow}
 
+-- the ends of an arc
 abbrev pub ends_along : Arc → Ends
 ends_along a = record { tail = a.tail; head = a.head }
 
@@ -46,3 +47,8 @@ pub record TellsRow (anywhere at_end : BitRelation) (first : ℕ) (row : UseRow)
   pub never_read : IsTrue row.never_read ↔ (IsJoined anywhere first Any ReadOnce → ⊥)
   pub never_written : IsTrue row.never_written ↔ (IsJoined anywhere first Any WrittenOnce → ⊥)
   pub end_unwritten : IsTrue row.end_unwritten ↔ IsJoined at_end first Fresh Fresh
+
+-- rows of these variables are added
+pub record AddsRows (g : FlowGraph) (variables : List ℕ) (old new : List UseRow) : Type 0 where
+  pub places : map place_of new ≡ map place_of old ++ variables
+  pub facts : (row : UseRow) → IsIn new row → IsIn old row ⊎ IsUseRow g row

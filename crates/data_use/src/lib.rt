@@ -5,7 +5,8 @@
 //! is a relation on points, and one elimination over the graph (Carré, Graphs and Networks, 1979) joins exactly what some
 //! walk joins; the facts are then read from the relation of all walks. Nine variables share one relation.
 //!
-//! The cost is one elimination for every nine variables.
+//! The cost is one elimination over the reachable lines for every nine variables; the facts of 60 variables of 1,000
+//! lines take seven.
 #![tactic(auto)]
 
 mod lines;

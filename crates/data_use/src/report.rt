@@ -5,9 +5,9 @@ ghost use Rattle.flow_graph.specs.Graph.{IsWellFormed, HasPlaces};
 ghost use Rattle.flow_graph.specs.Reached.{IsInnerOrder};
 ghost use Rattle.regular_algebra.specs.Relation.{Joins};
 ghost use Rattle.data_use.specs.Points.{number};
-ghost use Rattle.data_use.specs.Sums.{TellsRow, AreSums, IsFullOrder};
+ghost use Rattle.data_use.specs.Sums.{TellsRow, AreSums, AddsRows, IsFullOrder};
 ghost use Rattle.data_use.specs.Routes.{IsRoute};
-ghost use Rattle.data_use.specs.Facts.{IsUseRow, AddsRows, variables_from, place_of};
+ghost use Rattle.data_use.specs.Facts.{IsUseRow, variables_from, place_of};
 
 use crate::lines::entries_of;
 use crate::points::{POINTS, Point};
@@ -18,7 +18,7 @@ use il_core::{List, NoMemory, Place};
 use regular_algebra::{BitRelation, eliminate};
 use std::alloc::Global;
 
-/// How many variables share one relation.
+/// How many variables share one relation, which has room for the seven points of nine.
 const GROUP: usize = 9;
 
 /// Whether the relation leads from one point of a variable to another, where its points are numbered from `first` on.
@@ -121,6 +121,10 @@ fn variables(alloc: Global, places: &[Place]) -> Result<Vec<usize>, NoMemory>
 ///
 /// The places are those of the graph's nodes. The order has each reachable line but line 0 and the last exactly once; it
 /// changes no fact, only the time that is taken.
+///
+/// The walks are summed up by elimination (Carré, Graphs and Networks, 1979), once for every nine variables. An
+/// elimination takes a square of cells over the lines and, for each line, time linear in the lines for each line that then
+/// enters it.
 pub fn data_use(
     alloc: Global,
     graph: &FlowGraph,

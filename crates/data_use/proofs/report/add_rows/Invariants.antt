@@ -1,5 +1,5 @@
 use Rattle.std.proofs.Common.{take}
-use Rattle.data_use.specs.Facts.{AddsRows}
+use Rattle.data_use.specs.Sums.{AddsRows}
 use Rattle.data_use.proofs.report.add_rows.Given as goal
 
 -- the first variables have their rows
