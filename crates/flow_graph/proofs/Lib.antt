@@ -4,3 +4,4 @@ pub mod LineArcs
 pub mod Spreading
 pub mod Formed
 pub mod Tracks
+pub mod Literal

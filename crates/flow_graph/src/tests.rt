@@ -1,6 +1,8 @@
 use crate::building::{arcs_of, nodes_of};
+use crate::searching::no_marks;
 use crate::{
-    Arc, build, predecessors, reachable, steps_go_along_arcs, successors, walks_are_paths,
+    Arc, build, paths_from, predecessors, reachable, steps_go_along_arcs, successors,
+    walks_are_paths,
 };
 use il_core::{CheckedProc, Expr, Line, List, Name, NoMemory};
 use std::alloc::Global;
@@ -47,7 +49,12 @@ fn answers_the_smallest_graph(rt: HostRuntime) -> Result<(), Fail> {
             reachable(rt.alloc(), &graph)?.as_slice(),
             [true, true].as_slice()
         );
-        assert_eq!(rt; successors(rt.alloc(), &graph)?.len(), 2);
+        let rows = successors(rt.alloc(), &graph)?;
+        let blocked = no_marks(rt.alloc(), rows.len())?;
+        let paths = paths_from(rt.alloc(), rows.as_slice(), blocked.as_slice(), 0)?;
+        for path in paths.as_slice() {
+            assert_eq!(rt; path.as_slice().first().copied(), Some(0));
+        }
         assert_eq!(rt; predecessors(rt.alloc(), &graph)?.len(), 2);
     }
     Ok(())
