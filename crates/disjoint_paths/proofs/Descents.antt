@@ -1,10 +1,10 @@
 -- Numbers of open lines, each from the next: one more at the end, one less, and that each is less than the one from which it follows.
-use Rattle.std.proofs.Common.{◌≡◌, refl, sym, ◌∙◌, ℕ, ◌+◌, ◌<◌, List, [], ◌∷◌, ◌++◌, length, take, arith}
+use Rattle.std.proofs.Common.{refl, ℕ, ◌<◌, List, [], ◌∷◌, ◌++◌, length, take, arith}
 use Rattle.std.proofs.lemmas.List.{length-take-le}
 use Rattle.disjoint_paths.specs.declared.widening.Origin.{Origin}
 use Rattle.disjoint_paths.specs.declared.widening.Origin.TheVariants.{Tail, Step, Jump}
 use Rattle.disjoint_paths.specs.declared.widening.Opened.{Opened}
-use Rattle.disjoint_paths.specs.Widening.{IsOpening, IsStep, IsJump, AreOpened, opened_at}
+use Rattle.disjoint_paths.specs.Widening.{IsOpening, AreOpened, opened_at}
 use Rattle.disjoint_paths.specs.Descent.{CameFrom, AreLinked, IsDescent}
 
 -- each open line came from an earlier one

@@ -1,4 +1,4 @@
-use Rattle.std.proofs.Common.{◌≡◌, ◌++◌, refl, arith}
+use Rattle.std.proofs.Common.{refl}
 use Rattle.disjoint_paths.specs.Asked.{arcs_of, targets_of}
 use Rattle.disjoint_paths.proofs.Replays.{replay_step, replay_jump}
 use Rattle.disjoint_paths.proofs.fan.carry.Goals as goal

@@ -1,4 +1,4 @@
-use Rattle.std.proofs.Common.{◌<◌, arith}
+use Rattle.std.proofs.Common.{arith}
 use Rattle.disjoint_paths.proofs.Descents.{descent_more}
 use Rattle.disjoint_paths.proofs.fan.descent.Goals as goal
 

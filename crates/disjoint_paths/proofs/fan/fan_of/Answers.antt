@@ -1,4 +1,4 @@
-use Rattle.std.proofs.Common.{◌≡◌, [], arith, refl}
+use Rattle.std.proofs.Common.{◌≡◌, [], arith}
 use Rattle.std.proofs.lemmas.List.{nil_from_length}
 use Rattle.disjoint_paths.specs.Asked.{arcs_of, targets_of}
 use Rattle.disjoint_paths.proofs.Descents.{linked, descent_less}

@@ -1,9 +1,8 @@
-use Rattle.flow_graph.specs.Graph.{Joins, arc_to}
+use Rattle.flow_graph.specs.Graph.{Joins}
 use Rattle.flow_graph.specs.Search.{IsMarked}
 use Rattle.flow_graph.proofs.LineArcs.{rows_stay_below}
 use Rattle.disjoint_paths.specs.FirstPath.{IsNext}
 use Rattle.disjoint_paths.proofs.Walks.{some_along, none_along, Joins-from_next, next-from_Joins, no_loop}
-use Rattle.std.proofs.Common.{refl}
 use Rattle.disjoint_paths.proofs.paths.two_paths.Goals as goal
 
 pub pair_from-requires-clause-rows : goal.pair_from-requires-clause-rows
