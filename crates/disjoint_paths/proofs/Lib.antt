@@ -5,3 +5,4 @@ pub mod Openings
 pub mod Fans
 pub mod Replays
 pub mod Starts
+pub mod Descents

@@ -66,9 +66,6 @@ widening_start E P t path n roles f loop l p = record {
   passed = λ i h. absurd (omega arith);
 }
   where
-    alone : List Opened
-    alone = (record { line = t; origin = Tail; from = 0 }) ∷ []
-
     openings : AreOpened E P t path ((record { line = t; origin = Tail; from = 0 }) ∷ [])
     openings zero h = (refl, refl)
     openings (suc k) h = absurd (omega arith)

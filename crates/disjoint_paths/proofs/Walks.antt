@@ -2,7 +2,8 @@
 use Rattle.std.proofs.Common.{◌≡◌, inl, inr, refl, ℕ, ◌<◌, List, [], ◌∷◌, ◌++◌, length, Option, Some, None, arith}
 use Rattle.std.specs.Prelude.{IfSome, IfNone}
 use Rattle.flow_graph.specs.declared.graph.Arc.{Arc}
-use Rattle.flow_graph.specs.Graph.{Joins, heads_from}
+use Rattle.il_core.specs.LineGraph.{IsIn}
+use Rattle.flow_graph.specs.Graph.{Joins, heads_from, arc_to, IsSoundArc}
 use Rattle.flow_graph.specs.Search.{IsWalk, AreBelow, StayBelow, row_of}
 use Rattle.flow_graph.proofs.LineArcs.{Joins-from_heads, heads_from-Joins}
 use Rattle.flow_graph.proofs.Spreading.{walk_along}
@@ -62,3 +63,7 @@ Joins-from_next rows xs arcs e r a b h = Joins-from_heads arcs a b (rw (e, r a) 
 
 pub next-from_Joins : (rows xs : List (List ℕ)) (arcs : List Arc) → xs ≡ rows → ((k : ℕ) → row_of rows k ≡ heads_from arcs k) → (a b : ℕ) → Joins arcs a b → IsNext xs a b
 next-from_Joins rows xs arcs e r a b h = rw (e, r a) (heads_from-Joins arcs a b h)
+
+-- rows of heads of a well formed graph have no line in its own row
+pub no_loop : (rows xs : List (List ℕ)) (arcs : List Arc) (n : ℕ) → xs ≡ rows → ((k : ℕ) → row_of rows k ≡ heads_from arcs k) → ((a : Arc) → IsIn arcs a → IsSoundArc n a) → (t : ℕ) → IsNext xs t t → ⊥
+no_loop rows xs arcs n e r s t h = (s (arc_to t t) (Joins-from_next rows xs arcs e r t t h)).goes_elsewhere refl

@@ -5,3 +5,4 @@ pub mod Widening
 pub mod Roles
 pub mod Asked
 pub mod Widened
+pub mod Descent

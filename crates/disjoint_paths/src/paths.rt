@@ -1,5 +1,5 @@
 //! Two paths from a line to targets that share that line alone.
-ghost use Rattle.std.specs.Prelude.{◌≡◌, ◌≢◌, ℕ, ◌<◌, ◌↔◌, length, IfOk, IfSome, IfNone, IsFalse};
+ghost use Rattle.std.specs.Prelude.{◌≡◌, ℕ, ◌<◌, ◌↔◌, length, IfOk, IfSome, IfNone, IsFalse};
 ghost use Rattle.il_core.specs.LineGraph.{IsIn};
 ghost use Rattle.flow_graph.specs.Graph.{Joins, IsWellFormed};
 ghost use Rattle.flow_graph.specs.Search.{IsMarked, StayBelow};
@@ -55,9 +55,7 @@ fn forks(row: &[usize]) -> bool
 /// `Some` exactly where there is such a pair: each of its two lists has the lines of one path of at least one arc, from
 /// `tail` on; a target at which a path ends may be `tail` itself. The only error is `NoMemory`.
 ///
-/// The first path is looked for, and then a second one beside it, which may take over parts of the first: the
-/// augmentation of a flow by one (Ford and Fulkerson, Maximal flow through a network, 1956) with vertices of capacity
-/// one, after Menger, Zur allgemeinen Kurventheorie, 1927. Linear in the lines and the lengths of the rows.
+/// Linear in the lines and the lengths of the rows.
 pub fn pair_from<'a>(
     alloc: Global,
     rows: &'a [List<usize>],

@@ -1,5 +1,5 @@
 //! The state in which a search starts.
-ghost use Rattle.std.specs.Prelude.{◌≡◌, ℕ, ◌<◌, ◌∷◌, [], length, replicate, IfOk};
+ghost use Rattle.std.specs.Prelude.{◌≡◌, ◌<◌, length, replicate, IfOk};
 ghost use Rattle.disjoint_paths.specs.declared.widening.Role.TheVariants.{Far};
 ghost use Rattle.disjoint_paths.specs.Roles.{ArePlaced};
 ghost use Rattle.disjoint_paths.specs.Asked.{IsAsked, IsState};

@@ -1,13 +1,11 @@
 //! The search for a second path beside a first one: which lines it has opened, and how.
-ghost use Rattle.std.specs.Prelude.{◌≡◌, ◌≢◌, ℕ, ◌+◌, ◌<◌, ◌≤◌, ◌∷◌, ◌++◌, [], length, IfOk, IfSome, IfNone, MatchOption, slice_index, slice_set, replicate};
-ghost use Rattle.flow_graph.specs.Search.{IsMarked, StayBelow, AreBelow, row_of};
+ghost use Rattle.std.specs.Prelude.{◌≡◌, ◌≢◌, ℕ, ◌+◌, ◌<◌, ◌≤◌, ◌∷◌, ◌++◌, [], length, IfOk, IfSome, IfNone, slice_index, slice_set};
+ghost use Rattle.flow_graph.specs.Search.{row_of};
 ghost use Rattle.disjoint_paths.specs.declared.widening.Role.TheVariants.{Far, Open};
-ghost use Rattle.disjoint_paths.specs.FirstPath.{IsNext, IsFirstPath};
-ghost use Rattle.disjoint_paths.specs.Widening.{IsWidening, IsGrown, IsTurn, IsEnd, IsKept, Suits, role_at, opened_at, lines_of};
+ghost use Rattle.disjoint_paths.specs.Widening.{IsTurn, IsEnd, IsKept, opened_at};
 ghost use Rattle.disjoint_paths.specs.Asked.{IsAsked, IsState, IsLater, arcs_of, targets_of};
 
 use il_core::{List, NoMemory};
-use std::alloc::Global;
 
 /// What is asked of a search: a further path from a line to a target, beside a first one.
 #[derive(Clone, Copy, Drop)]

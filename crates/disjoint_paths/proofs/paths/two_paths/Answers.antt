@@ -1,9 +1,8 @@
-use Rattle.flow_graph.specs.Graph.{Joins, arc_to}
+use Rattle.flow_graph.specs.Graph.{Joins}
 use Rattle.flow_graph.specs.Search.{IsMarked}
 use Rattle.flow_graph.proofs.LineArcs.{rows_stay_below}
 use Rattle.disjoint_paths.specs.FirstPath.{IsNext}
-use Rattle.disjoint_paths.proofs.Walks.{some_along, none_along, Joins-from_next, next-from_Joins}
-use Rattle.std.proofs.Common.{refl}
+use Rattle.disjoint_paths.proofs.Walks.{some_along, none_along, Joins-from_next, next-from_Joins, no_loop}
 use Rattle.disjoint_paths.proofs.paths.two_paths.Goals as goal
 
 pub pair_from-requires-clause-rows : goal.pair_from-requires-clause-rows
@@ -11,9 +10,8 @@ pair_from-requires-clause-rows c =
     rows_stay_below c.in_ok-rows.rows c.as_slice.result.now c.args.graph.now.arcs _ c.as_slice.ensures c.in_ok-rows.ensures.rows c.requires.formed.arcs c.in_ok-rows.ensures.size
 
 pub pair_from-requires-clause-simple : goal.pair_from-requires-clause-simple
-pair_from-requires-clause-simple c h =
-    let j = Joins-from_next c.in_ok-rows.rows c.as_slice.result.now c.args.graph.now.arcs c.as_slice.ensures c.in_ok-rows.ensures.rows c.args.tail c.args.tail h in
-    (c.requires.formed.arcs (arc_to c.args.tail c.args.tail) j).goes_elsewhere refl
+pair_from-requires-clause-simple c =
+    no_loop c.in_ok-rows.rows c.as_slice.result.now c.args.graph.now.arcs _ c.as_slice.ensures c.in_ok-rows.ensures.rows c.requires.formed.arcs c.args.tail
 
 pub returns-clause-some : goal.returns-clause-some
 returns-clause-some c =

@@ -1,8 +1,8 @@
-use Rattle.std.proofs.Common.{◌≡◌, ◌≢◌, inl, inr, refl, sym, ap, ◌∙◌, ℕ, zero, suc, ◌+◌, ◌<◌, ◌≤◌, List, [], ◌∷◌, ◌++◌, Some, None, slice_get, length, arith}
+use Rattle.std.proofs.Common.{◌≡◌, inl, inr, refl, ap, ℕ, zero, suc, ◌+◌, ◌<◌, ◌≤◌, List, [], ◌∷◌, ◌++◌, Some, None, slice_get, arith}
 use Rattle.std.proofs.lemmas.Option.{same_Some, none-some}
 use Rattle.il_core.specs.LineGraph.{IsIn}
 use Rattle.flow_graph.specs.declared.graph.NodeKind.{NodeKind}
-use Rattle.flow_graph.specs.declared.graph.NodeKind.TheVariants.{Assign, Test, Assertion, Plain, Other, Last}
+use Rattle.flow_graph.specs.declared.graph.NodeKind.TheVariants.{Assign, Test, Plain, Other, Last}
 use Rattle.flow_graph.specs.declared.graph.Node.{Node}
 use Rattle.flow_graph.specs.declared.graph.Arc.{Arc}
 use Rattle.flow_graph.specs.Graph.{arc_to, IsSoundArc, IsSoundNode, IsWellFormed}
