@@ -76,7 +76,7 @@ product-reach (part c a m) (constant d) xs ys v w h k f g p q =
     let l : unsigned_abs d * reach xs ≤ w * v = mul-le-mul k f in rw (reach-scaled d xs) (omega (arith, l))
 product-reach (part c a m) (part d b n) xs ys v w h k f g p q = mul-le-mul {n₁ = 1} {m₁ = 1} {n₂ = v} {m₂ = w} p q
 
-not-zero : (d : ℤ) → int_eq d (pos 0) ≡ false → d ≢ pos 0
+pub not-zero : (d : ℤ) → int_eq d (pos 0) ≡ false → d ≢ pos 0
 not-zero d h e = let f : int_eq (pos 0) (pos 0) ≡ false = rw e at h in let g : ⊥ = cc in g
 
 quotient-reach : (c d : ℤ) (b : Bool) → int_eq d (pos 0) ≡ b → unsigned_abs (if b then pos 0 else int_div_euclid c d) ≤ unsigned_abs c + unsigned_abs d

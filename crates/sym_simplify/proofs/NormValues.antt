@@ -20,10 +20,10 @@ add-swap a b c = omega (arith, ints)
 less-swap : (a b c : ℤ) → (a +ℤ b) -ℤ c ≡ (a -ℤ c) +ℤ b
 less-swap a b c = omega (arith, ints)
 
-add-assoc : (a b c : ℤ) → (a +ℤ b) +ℤ c ≡ a +ℤ (b +ℤ c)
+pub add-assoc : (a b c : ℤ) → (a +ℤ b) +ℤ c ≡ a +ℤ (b +ℤ c)
 add-assoc a b c = omega (arith, ints)
 
-add-past : (a b c : ℤ) → b +ℤ (a +ℤ c) ≡ a +ℤ (b +ℤ c)
+pub add-past : (a b c : ℤ) → b +ℤ (a +ℤ c) ≡ a +ℤ (b +ℤ c)
 add-past a b c = omega (arith, ints)
 
 -- a product distributes over a sum
@@ -43,7 +43,7 @@ times-sum (negsuc (suc n)) d x =
     ∙ (less-swap (negsuc n *ℤ x) (d *ℤ x) x ∙ ap (λ v. v +ℤ (d *ℤ x)) (sym (pred_ℤ-*ℤ (negsuc n) x)))))
 
 -- and over a sum on its right
-sum-times : (c x y : ℤ) → c *ℤ (x +ℤ y) ≡ (c *ℤ x) +ℤ (c *ℤ y)
+pub sum-times : (c x y : ℤ) → c *ℤ (x +ℤ y) ≡ (c *ℤ x) +ℤ (c *ℤ y)
 sum-times c x y = product-swap c (x +ℤ y) ∙ (times-sum x y c ∙ rw (product-swap x c, product-swap y c) refl)
 
 one-times : (x : ℤ) → pos 1 *ℤ x ≡ x
@@ -75,7 +75,7 @@ total [] s = pos 0
 total (alone c ∷ more) s = c +ℤ total more s
 total (often c a ∷ more) s = (c *ℤ factor_value a s) +ℤ total more s
 
-zero-test : (c : ℤ) → int_eq c (pos 0) ≡ true → c ≡ pos 0
+pub zero-test : (c : ℤ) → int_eq c (pos 0) ≡ true → c ≡ pos 0
 zero-test c h = grind (arith, ints)
 
 before-by : (c : ℤ) (a : Factor) (n : Form) (s : State) (b : Bool) → int_eq c (pos 0) ≡ b

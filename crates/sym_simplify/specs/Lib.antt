@@ -1,4 +1,6 @@
 pub mod Form
 pub mod Order
 pub mod Norm
+pub mod Normal
+pub mod Merge
 pub mod Laws

@@ -6,5 +6,5 @@
 mod laws;
 mod normal;
 
-pub use laws::{normal_terms_keep_values, weights_bound_normal_terms};
+pub use laws::{coefficients_are_sums, constants_are_sums, normal_terms_are_normal, normal_terms_are_unique, normal_terms_keep_values, orders_are_exact, weights_bound_normal_terms};
 pub use normal::{Atom, Kept, LinearPart, LinearTerm, LitForm, Normal, Part};
