@@ -6,3 +6,6 @@ pub mod Unique
 pub mod Merges
 pub mod Sides
 pub mod Exact
+pub mod Cells
+pub mod SameForms
+pub mod Tests

@@ -3,4 +3,5 @@ pub mod Order
 pub mod Norm
 pub mod Normal
 pub mod Merge
+pub mod Table
 pub mod Laws

@@ -4,7 +4,14 @@
 #![tactic(auto)]
 
 mod laws;
+mod node;
 mod normal;
+mod table;
 
-pub use laws::{coefficients_are_sums, constants_are_sums, normal_terms_are_normal, normal_terms_are_unique, normal_terms_keep_values, orders_are_exact, weights_bound_normal_terms};
+pub use laws::{
+    coefficients_are_sums, constants_are_sums, normal_terms_are_normal, normal_terms_are_unique,
+    normal_terms_keep_values, orders_are_exact, weights_bound_normal_terms,
+};
+pub use node::{FormAtom, FormId, FormNode, FormPart};
 pub use normal::{Atom, Kept, LinearPart, LinearTerm, LitForm, Normal, Part};
+pub use table::FormTable;
