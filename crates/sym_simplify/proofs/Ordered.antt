@@ -22,10 +22,10 @@ reverse-then Less p = refl
 reverse-then Equal p = refl
 reverse-then Greater p = refl
 
-equal-numbers : (p q : ℕ) → nat_cmp p q ≡ Equal → p ≡ q
+pub equal-numbers : (p q : ℕ) → nat_cmp p q ≡ Equal → p ≡ q
 equal-numbers p q h = grind (arith, nat_tests)
 
-equal-integers : (c d : ℤ) → int_cmp c d ≡ Equal → c ≡ d
+pub equal-integers : (c d : ℤ) → int_cmp c d ≡ Equal → c ≡ d
 equal-integers c d h = grind (arith, ints)
 
 -- kinds of one rank are one kind

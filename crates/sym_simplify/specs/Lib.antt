@@ -1,4 +1,14 @@
 pub mod Form
 pub mod Order
 pub mod Norm
+pub mod Normal
+pub mod Merge
+pub mod Arithmetic
+pub mod Table
+pub mod Open
+pub mod Held
+pub mod Store
+pub mod Literal
+pub mod Linear
+pub mod Known
 pub mod Laws
