@@ -1,3 +1,5 @@
 pub mod Interval
 pub mod Level
 pub mod Derivation
+pub mod Choice
+pub mod Growth

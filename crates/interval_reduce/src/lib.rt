@@ -3,6 +3,8 @@
 //! one node exactly where no cycle can be entered first at two nodes.
 #![tactic(auto)]
 
+mod choice;
+mod growth;
 mod interval;
 
 pub use interval::{Derivation, Interval};

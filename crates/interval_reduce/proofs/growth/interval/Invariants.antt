@@ -1,0 +1,17 @@
+use Rattle.std.proofs.Common.{◌≡◌, ℕ, ◌<◌, List, length}
+use Rattle.std.specs.Prelude.{not}
+use Rattle.std.specs.List.{count_by}
+use Rattle.interval_reduce.specs.Choice.{AreMarked}
+use Rattle.interval_reduce.proofs.Growing.{Growing}
+use Rattle.interval_reduce.proofs.growth.interval.Given as goal
+
+abbrev pub invariant-loop-node : goal.invariant-loop-node
+invariant-loop-node l = record {
+  taken_size : length l.taken.items ≡ length l.preds;
+  inside_size : length l.inside.items ≡ length l.preds;
+  fewer : count_by not l.taken.items < count_by not l.fn.taken.items;
+  grown : (earlier : List ℕ) → AreMarked l.fn.taken.items earlier → Growing l.nodes l.preds earlier l.head l.taken.items l.inside.items l.members;
+}
+
+abbrev pub decreases-loop-node : goal.decreases-loop-node
+decreases-loop-node l = count_by not l.taken.items
