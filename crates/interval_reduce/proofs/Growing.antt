@@ -62,6 +62,7 @@ pub record Growing (nodes : List ℕ) (preds : List (List ℕ)) (earlier : List 
   pub marked : AreMarked taken (earlier ++ members)
   pub within : AreMarked inside members
   pub once : Differ earlier → Differ (earlier ++ members)
+  pub each_node : (v : ℕ) → IsIn members v → IsIn nodes v
   pub goes : (more : List ℕ) → Takes (IsIn nodes) (Precedes preds) earlier members more → IsIntervalOf (IsIn nodes) (Precedes preds) earlier head (members ++ more)
 
 -- the test of marks is the definition
@@ -85,13 +86,14 @@ fits_same nodes preds earlier members taken inside o m n = least_same (IsFitting
     }
 
 pub growing_start : (nodes : List ℕ) (preds : List (List ℕ)) (earlier : List ℕ) (head : ℕ) (was none taken inside : List Bool) (members : List ℕ) (n : ℕ)
-    → AreMarked was earlier → IsUnmarked was head → head < length was → none ≡ replicate n false → head < n
+    → AreMarked was earlier → IsUnmarked was head → IsIn nodes head → head < length was → none ≡ replicate n false → head < n
     → taken ≡ set was head true → inside ≡ set none head true → members ≡ head ∷ []
     → Growing nodes preds earlier head taken inside members
-growing_start nodes preds earlier head was none taken inside members n m u l e below t s h = rw (t, s, h, e) (record {
+growing_start nodes preds earlier head was none taken inside members n m u node l e below t s h = rw (t, s, h, e) (record {
   marked = AreMarked-push was earlier head l m;
   within = AreMarked-push (replicate n false) [] head (omega (arith, length-replicate n false)) (AreMarked-none n);
   once = λ d. Differ-push earlier head d (λ i. unmarked_not was head u ((m head).1 i));
+  each_node = λ v i. elim i [ inl same ↦ rw (← same) node | inr none ↦ absurd none ];
   goes = λ more g. (more, refl, g);
 })
 
@@ -103,6 +105,7 @@ growing_on nodes preds earlier head v was before taken inside old members least 
   marked = rw (append_assoc earlier old (v ∷ [])) at (AreMarked-push was (earlier ++ old) v l g.marked);
   within = AreMarked-push before old v k g.within;
   once = λ d. rw (append_assoc earlier old (v ∷ [])) at (Differ-push (earlier ++ old) v (g.once d) (λ i. unmarked_not was v least.0.free ((g.marked v).1 i)));
+  each_node = λ k i. elim (IsIn-push_cases old v k i) [ inl o ↦ g.each_node k o | inr same ↦ rw (← same) least.0.node ];
   goes = λ more h. rw (append_assoc old (v ∷ []) more) (g.goes (v ∷ more) (fits_same nodes preds earlier old was before (Some v) g.marked g.within least, h));
 })
 
@@ -113,12 +116,14 @@ growing_end nodes preds earlier head taken inside members none g = record {
   interval = rw (append-nil members) at (g.goes [] (fits_same nodes preds earlier members taken inside None g.marked g.within none));
   marked = g.marked;
   once = g.once;
+  each_node = g.each_node;
 }
 
 -- what stays true while intervals are made
 pub record Leveling (nodes : List ℕ) (preds : List (List ℕ)) (level : List Interval) (taken : List Bool) : Type 0 where
   pub marked : AreMarked taken (members_of level)
   pub once : Differ (members_of level)
+  pub each_node : (v : ℕ) → IsIn (members_of level) v → IsIn nodes v
   pub goes : (more : List Interval) → GoesOn (IsIn nodes) (Precedes preds) (members_of level) more → IsLevel (IsIn nodes) (Precedes preds) (level ++ more)
 
 pub leveling_start : (nodes : List ℕ) (preds : List (List ℕ)) (i : Interval) (level : List Interval) (taken : List Bool) → i.head ≡ 0
@@ -126,6 +131,7 @@ pub leveling_start : (nodes : List ℕ) (preds : List (List ℕ)) (i : Interval)
 leveling_start nodes preds i level taken h t e = rw e (record {
   marked = rw (append-nil i.members) t.marked;
   once = rw (append-nil i.members) (t.once tt);
+  each_node = rw (append-nil i.members) t.each_node;
   goes = λ more g. (h, rw h at t.interval, rw (append-nil i.members) at g);
 })
 
@@ -148,6 +154,7 @@ leveling_on nodes preds was i level before taken least t e g =
     rw e (record {
       marked = rw (← f) t.marked;
       once = rw (← f) (t.once g.once);
+      each_node = rw (← f) (λ v k. elim (IsIn-append_cases (members_of was) i.members v k) [ inl o ↦ g.each_node v o | inr n ↦ t.each_node v n ]);
       goes = λ more h. rw (append_assoc was (i ∷ []) more) (g.goes (i ∷ more) (next_same nodes preds (members_of was) before (Some i.head) g.marked least, t.interval, rw (← f) at h));
     })
 

@@ -3,3 +3,4 @@ pub mod Level
 pub mod Derivation
 pub mod Choice
 pub mod Growth
+pub mod LevelGraph

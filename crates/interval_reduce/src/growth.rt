@@ -50,7 +50,7 @@ pub fn interval(
     requires taken { length taken.old.items ≡ length preds.now }
     requires nodes { AreBelow (length preds.now) nodes.now }
     requires rows { StayBelow (length preds.now) preds.now }
-    requires below { head < length preds.now }
+    requires head { IsIn nodes.now head }
     requires free { IsUnmarked taken.old.items head }
     ensures head { IfOk result (λ i. i.head ≡ head) }
     ensures size { IfOk result (λ _. length taken.new.items ≡ length taken.old.items) }
@@ -77,6 +77,7 @@ pub fn level(
     requires rows { StayBelow (length preds.now) preds.now }
     requires first { IsIn nodes.now 0 }
     ensures level { IfOk result (λ l. IsLevel (IsIn nodes.now) (Precedes preds.now) l) }
+    ensures nodes { IfOk result (λ l. (v : ℕ) → IsIn (members_of l) v → IsIn nodes.now v) }
     ensures once { IfOk result (λ l. Differ (members_of l)) }
 {
     let mut taken = no_marks(alloc, preds.len())?;

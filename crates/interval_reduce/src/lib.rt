@@ -4,7 +4,11 @@
 #![tactic(auto)]
 
 mod choice;
+mod derivation;
 mod growth;
 mod interval;
+mod level_graph;
+mod levels;
 
+pub use derivation::derive;
 pub use interval::{Derivation, Interval};

@@ -9,7 +9,7 @@ use Rattle.interval_reduce.proofs.growth.interval.Goals as goal
 pub loop-node-init : goal.loop-node-init
 loop-node-init c =
     let was = c.args.taken.now.items in
-    let l : c.args.head < length was = let t = c.requires.taken in let b = c.requires.below in omega arith in
+    let l : c.args.head < length was = let t = c.requires.taken in let b = c.requires.nodes c.args.head c.requires.head in omega arith in
     let f = fewer_after was c.args.head l c.requires.free in
     let d = ap (count_by not) c.in_ok-take.ensures.taken in
     record {
@@ -18,7 +18,7 @@ loop-node-init c =
       fewer = omega (arith, f, d);
       grown = λ earlier m.
           growing_start c.args.nodes.now c.args.preds.now earlier c.args.head was c.in_ok-inside.inside.items _ _ _ (length c.args.preds.now)
-          m c.requires.free l c.in_ok-inside.ensures c.requires.below c.in_ok-take.ensures.taken c.in_ok-take.ensures.inside
+          m c.requires.free c.requires.head l c.in_ok-inside.ensures (c.requires.nodes c.args.head c.requires.head) c.in_ok-take.ensures.taken c.in_ok-take.ensures.inside
           (c.in_ok-take.ensures.members ∙ ap (λ (xs : List ℕ). xs ++ c.args.head ∷ []) c.new-members.ensures);
     }
 
