@@ -4,3 +4,15 @@ pub mod Carrying
 pub mod Alike
 pub mod Shrinking
 pub mod Descending
+pub mod ReductionLists
+pub mod ReductionWalks
+pub mod Dominance
+pub mod ReductionUp
+pub mod ReductionDown
+pub mod Owner
+pub mod OwnerLevel
+pub mod Reduction
+pub mod Order
+pub mod ReductionGraph
+pub mod ReductionShape
+pub mod ReductionOnce

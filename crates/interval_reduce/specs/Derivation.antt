@@ -1,6 +1,6 @@
 -- The derivation of a graph: its levels, which end in one interval exactly where the graph is reducible, and the order in which its
 -- nodes are taken into intervals.
-use Rattle.std.specs.Prelude.{◌≡◌, ◌↔◌, ℕ, ◌+◌, Bool, not, List, [], ◌∷◌, drop, filter, length, nat_eq}
+use Rattle.std.specs.Prelude.{◌≡◌, ◌↔◌, ℕ, ◌+◌, not, List, [], ◌∷◌, drop, filter, length, nat_eq}
 use Rattle.std.specs.List.{flat_map}
 use Rattle.flow_graph.specs.Graph.{Joins}
 use Rattle.flow_graph.specs.Reached.{IsReached, IsInnerOrder}

@@ -1,7 +1,7 @@
 -- A level parts the nodes of a graph into intervals: the first has node 0 as its head, each next one the least node outside that an
 -- interval before it leads to. The next level has a node for each interval, named by its head.
-use Rattle.std.specs.Prelude.{◌≡◌, ◌≢◌, ◌⊎◌, ℕ, Bool, true, List, [], ◌∷◌, ◌++◌, map, length, nat_eq, if◌then◌else◌}
-use Rattle.std.specs.List.{list_any, flat_map}
+use Rattle.std.specs.Prelude.{◌≡◌, ◌≢◌, ◌⊎◌, ℕ, Bool, List, [], ◌∷◌, ◌++◌, map, length, nat_eq, if◌then◌else◌}
+use Rattle.std.specs.List.{list_any}
 use Rattle.il_core.specs.LineGraph.{IsIn}
 use Rattle.interval_reduce.specs.declared.interval.Interval.{Interval}
 use Rattle.interval_reduce.specs.Interval.{IsLeast, IsIntervalOf}

@@ -7,8 +7,10 @@ mod choice;
 mod derivation;
 mod growth;
 mod interval;
+mod laws;
 mod level_graph;
 mod levels;
 
 pub use derivation::derive;
 pub use interval::{Derivation, Interval};
+pub use laws::{levels_tell_shape, one_derivation, reduction_theorem};
