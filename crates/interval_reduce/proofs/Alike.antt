@@ -34,9 +34,9 @@ least_alike P Q there back v h = (there v h.0, λ w q. h.1 w (back w q))
 takes_alike : (N M : ℕ → Type 0) (E F : ℕ → ℕ → Type 0) → AreAlike N M → JoinAlike E F → (earlier members others : List ℕ) → Takes N E earlier members others → Takes M F earlier members others
 takes_alike N M E F n e earlier members [] h = λ v f. h v (fits_alike M N F E (turned N M n) (turned_arcs E F e) earlier members v f)
 takes_alike N M E F n e earlier members (v ∷ others) h = (
-    least_alike (Fits N E earlier members) (Fits M F earlier members) (fits_alike N M E F n e earlier members)
-    (fits_alike M N F E (turned N M n) (turned_arcs E F e) earlier members) v h.0,
-    takes_alike N M E F n e earlier (members ++ v ∷ []) others h.1
+  least_alike (Fits N E earlier members) (Fits M F earlier members) (fits_alike N M E F n e earlier members)
+      (fits_alike M N F E (turned N M n) (turned_arcs E F e) earlier members) v h.0,
+  takes_alike N M E F n e earlier (members ++ v ∷ []) others h.1,
 )
 
 interval_alike : (N M : ℕ → Type 0) (E F : ℕ → ℕ → Type 0) → AreAlike N M → JoinAlike E F → (earlier : List ℕ) (head : ℕ) (members : List ℕ) → IsIntervalOf N E earlier head members
@@ -49,9 +49,9 @@ head_alike N M E F n e earlier v h = record { node = (n v).0 h.node; outside = h
 goes_alike : (N M : ℕ → Type 0) (E F : ℕ → ℕ → Type 0) → AreAlike N M → JoinAlike E F → (earlier : List ℕ) (level : List Interval) → GoesOn N E earlier level → GoesOn M F earlier level
 goes_alike N M E F n e earlier [] h = λ v p. h v (head_alike M N F E (turned N M n) (turned_arcs E F e) earlier v p)
 goes_alike N M E F n e earlier (i ∷ rest) h = (
-    least_alike (MayBeHead N E earlier) (MayBeHead M F earlier) (head_alike N M E F n e earlier) (head_alike M N F E (turned N M n) (turned_arcs E F e) earlier) i.head h.0,
-    interval_alike N M E F n e earlier i.head i.members h.1,
-    goes_alike N M E F n e (earlier ++ i.members) rest h.2
+  least_alike (MayBeHead N E earlier) (MayBeHead M F earlier) (head_alike N M E F n e earlier) (head_alike M N F E (turned N M n) (turned_arcs E F e) earlier) i.head h.0,
+  interval_alike N M E F n e earlier i.head i.members h.1,
+  goes_alike N M E F n e (earlier ++ i.members) rest h.2,
 )
 
 pub level_alike : (N M : ℕ → Type 0) (E F : ℕ → ℕ → Type 0) → AreAlike N M → JoinAlike E F → (level : List Interval) → IsLevel N E level → IsLevel M F level
@@ -61,15 +61,15 @@ level_alike N M E F n e (i ∷ rest) h = (h.0, interval_alike N M E F n e [] 0 i
 -- the arcs of the next level come from the arcs of this one
 next_alike : (E F : ℕ → ℕ → Type 0) → JoinAlike E F → (level : List Interval) → JoinAlike (NextArc E level) (NextArc F level)
 next_alike E F e level a b = (
-    λ h. (h.0, h.1, h.2, (e h.1 h.2).0 h.3, h.4, h.5),
-    λ h. (h.0, h.1, h.2, (e h.1 h.2).1 h.3, h.4, h.5)
+  λ h. (h.0, h.1, h.2, (e h.1 h.2).0 h.3, h.4, h.5),
+  λ h. (h.0, h.1, h.2, (e h.1 h.2).1 h.3, h.4, h.5),
 )
 
 pub levels_alike : (N M : ℕ → Type 0) (E F : ℕ → ℕ → Type 0) → AreAlike N M → JoinAlike E F → (level : List Interval) (rest : List (List Interval)) → AreLevels N E level rest
     → AreLevels M F level rest
 levels_alike N M E F n e level [] h = (level_alike N M E F n e level h.0, h.1)
 levels_alike N M E F n e level (next ∷ rest) h = (
-    level_alike N M E F n e level h.0,
-    h.1,
-    levels_alike (IsIn (heads_of level)) (IsIn (heads_of level)) (NextArc E level) (NextArc F level) (λ v. (λ i. i, λ i. i)) (next_alike E F e level) next rest h.2
+  level_alike N M E F n e level h.0,
+  h.1,
+  levels_alike (IsIn (heads_of level)) (IsIn (heads_of level)) (NextArc E level) (NextArc F level) (λ v. (λ i. i, λ i. i)) (next_alike E F e level) next rest h.2,
 )

@@ -7,52 +7,29 @@ use Rattle.std.proofs.lemmas.List.Folds.{list_any_more}
 use Rattle.std.proofs.lemmas.Bool.Decides.{eqb_tells}
 use Rattle.il_core.specs.LineGraph.{IsIn}
 use Rattle.flow_graph.specs.declared.graph.Arc.{Arc}
-use Rattle.flow_graph.specs.Graph.{arc_to, Joins, tails_into}
-use Rattle.flow_graph.specs.Search.{IsMarked, IsUnmarked, AreBelow, row_of}
-use Rattle.flow_graph.proofs.LineArcs.{Joins-from_tails, tails_into-Joins}
+use Rattle.flow_graph.specs.Graph.{arc_to, Joins, heads_from, tails_into}
+use Rattle.flow_graph.specs.Search.{IsMarked, IsUnmarked, AreBelow, Reaches, row_of}
+use Rattle.flow_graph.proofs.Spreading.{walk_along}
+use Rattle.flow_graph.proofs.LineArcs.{Joins-from_heads, heads_from-Joins, Joins-from_tails, tails_into-Joins}
 use Rattle.interval_reduce.specs.Choice.{Precedes}
 use Rattle.interval_reduce.specs.declared.interval.Interval.{Interval}
-use Rattle.interval_reduce.specs.Growth.{members_of}
+use Rattle.interval_reduce.specs.Growth.{AreConverse, members_of}
 use Rattle.flow_graph.proofs.Members.{IsIn-get_or, IsIn-more_cases, IsIn-more_old, IsIn-more_new, IsIn-push, IsIn-push_cases, IsIn-append_left, IsIn-append_right}
-use Rattle.interval_reduce.specs.LevelGraph.{IsCarried}
-
--- the marked lines of a front, with one line more that is marked, or is not
-pub lines_push : (marks : List Bool) (i : ℕ) (lines : List ℕ) → IsMarked marks i → ((k : ℕ) → IsIn lines k ↔ ((k < i) × IsMarked marks k))
-    → (k : ℕ) → IsIn (lines ++ i ∷ []) k ↔ ((k < i + 1) × IsMarked marks k)
-lines_push marks i lines m h k = (
-    λ j. elim (IsIn-push_cases lines i k j) [ inl old ↦ let o = (h k).0 old in (omega (arith, o.0), o.1) | inr same ↦ (omega arith, rw (← same) m) ],
-    λ q. elim (eqb_tells k i) [ inl same ↦ rw same.1 (IsIn-push lines i) | inr other ↦ let n = other.1 in IsIn-append_left lines (i ∷ []) k ((h k).1 (below n q.0, q.1)) ]
-)
-  where
-    below : (k ≢ i) → k < i + 1 → k < i
-    below n l = omega arith
-
-pub lines_skip : (marks : List Bool) (i : ℕ) (lines : List ℕ) → IsUnmarked marks i → ((k : ℕ) → IsIn lines k ↔ ((k < i) × IsMarked marks k))
-    → (k : ℕ) → IsIn lines k ↔ ((k < i + 1) × IsMarked marks k)
-lines_skip marks i lines u h k = (
-    λ j. let o = (h k).0 j in (omega (arith, o.0), o.1),
-    λ q. elim (eqb_tells k i) [ inl same ↦ absurd (clash (rw same.1 at q.1)) | inr other ↦ (h k).1 (below other.1 q.0, q.1) ]
-)
-  where
-    clash : IsMarked marks i → ⊥
-    clash m = cc
-
-    below : (k ≢ i) → k < i + 1 → k < i
-    below n l = omega arith
+use Rattle.interval_reduce.specs.Arcs.{IsCarried}
 
 -- the arcs of a front that leave marked lines, with one arc more
 pub marked_push : (marks : List Bool) (arcs : List Arc) (i : ℕ) (d : Arc) (was : List Arc) → i < length arcs → IsMarked marks (get_or arcs i d).tail
     → ((a b : ℕ) → Joins was a b ↔ (Joins (take i arcs) a b × IsMarked marks a))
     → (a b : ℕ) → Joins (was ++ get_or arcs i d ∷ []) a b ↔ (Joins (take (i + 1) arcs) a b × IsMarked marks a)
 marked_push marks arcs i d was l m h a b = (
-    λ j. elim (IsIn-push_cases was (get_or arcs i d) (arc_to a b) j) [
-      | inl old ↦ let o = (h a b).0 old in (IsIn-more_old arcs i d (arc_to a b) l o.0, o.1)
-      | inr same ↦ (rw (← same) (IsIn-more_new arcs i d l), here same)
-    ],
-    λ q. elim (IsIn-more_cases arcs i d (arc_to a b) l q.0) [
-      | inl old ↦ IsIn-append_left was (get_or arcs i d ∷ []) (arc_to a b) ((h a b).1 (old, q.1))
-      | inr same ↦ rw (← same) (IsIn-push was (get_or arcs i d))
-    ]
+  λ j. elim (IsIn-push_cases was (get_or arcs i d) (arc_to a b) j) [
+    | inl old ↦ let o = (h a b).0 old in (IsIn-more_old arcs i d (arc_to a b) l o.0, o.1)
+    | inr same ↦ (rw (← same) (IsIn-more_new arcs i d l), here same)
+  ],
+  λ q. elim (IsIn-more_cases arcs i d (arc_to a b) l q.0) [
+    | inl old ↦ IsIn-append_left was (get_or arcs i d ∷ []) (arc_to a b) ((h a b).1 (old, q.1))
+    | inr same ↦ rw (← same) (IsIn-push was (get_or arcs i d))
+  ],
 )
   where
     here : get_or arcs i d ≡ arc_to a b → IsMarked marks a
@@ -62,8 +39,8 @@ pub marked_skip : (marks : List Bool) (arcs : List Arc) (i : ℕ) (d : Arc) (was
     → ((a b : ℕ) → Joins was a b ↔ (Joins (take i arcs) a b × IsMarked marks a))
     → (a b : ℕ) → Joins was a b ↔ (Joins (take (i + 1) arcs) a b × IsMarked marks a)
 marked_skip marks arcs i d was l u h a b = (
-    λ j. let o = (h a b).0 j in (IsIn-more_old arcs i d (arc_to a b) l o.0, o.1),
-    λ q. elim (IsIn-more_cases arcs i d (arc_to a b) l q.0) [ inl old ↦ (h a b).1 (old, q.1) | inr same ↦ absurd (clash same q.1) ]
+  λ j. let o = (h a b).0 j in (IsIn-more_old arcs i d (arc_to a b) l o.0, o.1),
+  λ q. elim (IsIn-more_cases arcs i d (arc_to a b) l q.0) [ inl old ↦ (h a b).1 (old, q.1) | inr same ↦ absurd (clash same q.1) ],
 )
   where
     clash : get_or arcs i d ≡ arc_to a b → IsMarked marks a → ⊥
@@ -75,21 +52,21 @@ pub carried_push : (own : ℕ → ℕ) (arcs : List Arc) (i : ℕ) (d : Arc) (wa
     → ((a b : ℕ) → Joins was a b ↔ IsCarried own (take i arcs) a b)
     → (a b : ℕ) → Joins (was ++ arc_to (own (get_or arcs i d).tail) (own (get_or arcs i d).head) ∷ []) a b ↔ IsCarried own (take (i + 1) arcs) a b
 carried_push own arcs i d was l n h a b = (
-    λ j. elim (IsIn-push_cases was (arc_to (own x.tail) (own x.head)) (arc_to a b) j) [
-      | inl old ↦ let o = (h a b).0 old in (o.0, o.1, o.2, IsIn-more_old arcs i d (arc_to o.1 o.2) l o.3, o.4, o.5)
-      | inr same ↦
-          let t : own x.tail ≡ a = ap (λ (y : Arc). y.tail) same in
-          let e : own x.head ≡ b = ap (λ (y : Arc). y.head) same in
-          (λ f. n (t ∙ f ∙ sym e), x.tail, x.head, IsIn-more_new arcs i d l, t, e)
-    ],
-    λ q. elim (IsIn-more_cases arcs i d (arc_to q.1 q.2) l q.3) [
-      | inl old ↦ IsIn-append_left was (arc_to (own x.tail) (own x.head) ∷ []) (arc_to a b) ((h a b).1 (q.0, q.1, q.2, old, q.4, q.5))
-      | inr same ↦
-          let t : x.tail ≡ q.1 = ap (λ (y : Arc). y.tail) same in
-          let e : x.head ≡ q.2 = ap (λ (y : Arc). y.head) same in
-          let f : arc_to (own x.tail) (own x.head) ≡ arc_to a b = both _ a _ b (ap own t ∙ q.4) (ap own e ∙ q.5) in
-          rw (← f) (IsIn-push was (arc_to (own x.tail) (own x.head)))
-    ]
+  λ j. elim (IsIn-push_cases was (arc_to (own x.tail) (own x.head)) (arc_to a b) j) [
+    | inl old ↦ let o = (h a b).0 old in (o.0, o.1, o.2, IsIn-more_old arcs i d (arc_to o.1 o.2) l o.3, o.4, o.5)
+    | inr same ↦
+        let t : own x.tail ≡ a = ap (λ (y : Arc). y.tail) same in
+        let e : own x.head ≡ b = ap (λ (y : Arc). y.head) same in
+        (λ f. n (t ∙ f ∙ sym e), x.tail, x.head, IsIn-more_new arcs i d l, t, e)
+  ],
+  λ q. elim (IsIn-more_cases arcs i d (arc_to q.1 q.2) l q.3) [
+    | inl old ↦ IsIn-append_left was (arc_to (own x.tail) (own x.head) ∷ []) (arc_to a b) ((h a b).1 (q.0, q.1, q.2, old, q.4, q.5))
+    | inr same ↦
+        let t : x.tail ≡ q.1 = ap (λ (y : Arc). y.tail) same in
+        let e : x.head ≡ q.2 = ap (λ (y : Arc). y.head) same in
+        let f : arc_to (own x.tail) (own x.head) ≡ arc_to a b = both _ a _ b (ap own t ∙ q.4) (ap own e ∙ q.5) in
+        rw (← f) (IsIn-push was (arc_to (own x.tail) (own x.head)))
+  ],
 )
   where
     x : Arc
@@ -103,14 +80,14 @@ pub carried_skip : (own : ℕ → ℕ) (arcs : List Arc) (i : ℕ) (d : Arc) (wa
     → ((a b : ℕ) → Joins was a b ↔ IsCarried own (take i arcs) a b)
     → (a b : ℕ) → Joins was a b ↔ IsCarried own (take (i + 1) arcs) a b
 carried_skip own arcs i d was l n h a b = (
-    λ j. let o = (h a b).0 j in (o.0, o.1, o.2, IsIn-more_old arcs i d (arc_to o.1 o.2) l o.3, o.4, o.5),
-    λ q. elim (IsIn-more_cases arcs i d (arc_to q.1 q.2) l q.3) [
-      | inl old ↦ (h a b).1 (q.0, q.1, q.2, old, q.4, q.5)
-      | inr same ↦
-          let t : (get_or arcs i d).tail ≡ q.1 = ap (λ (y : Arc). y.tail) same in
-          let e : (get_or arcs i d).head ≡ q.2 = ap (λ (y : Arc). y.head) same in
-          absurd (q.0 (sym q.4 ∙ ap own (sym t) ∙ n ∙ ap own e ∙ q.5))
-    ]
+  λ j. let o = (h a b).0 j in (o.0, o.1, o.2, IsIn-more_old arcs i d (arc_to o.1 o.2) l o.3, o.4, o.5),
+  λ q. elim (IsIn-more_cases arcs i d (arc_to q.1 q.2) l q.3) [
+    | inl old ↦ (h a b).1 (q.0, q.1, q.2, old, q.4, q.5)
+    | inr same ↦
+        let t : (get_or arcs i d).tail ≡ q.1 = ap (λ (y : Arc). y.tail) same in
+        let e : (get_or arcs i d).head ≡ q.2 = ap (λ (y : Arc). y.head) same in
+        absurd (q.0 (sym q.4 ∙ ap own (sym t) ∙ n ∙ ap own e ∙ q.5))
+  ],
 )
 
 or_right : (a b : Bool) → b ≡ true → (a || b) ≡ true
@@ -146,3 +123,17 @@ others_below n (i ∷ rest) l b = rw (take_rest (i ∷ rest) 1) (λ k j. b k (Is
 -- the rows of tails hold the predecessors
 pub preceded : (arcs : List Arc) (rows : List (List ℕ)) → ((k : ℕ) → row_of rows k ≡ tails_into arcs k) → (u v : ℕ) → Precedes rows u v ↔ Joins arcs u v
 preceded arcs rows r u v = (λ h. Joins-from_tails arcs v u (rw (r v) at h), λ j. rw (r v) (tails_into-Joins arcs v u j))
+
+-- the rows of tails and of heads are of the same arcs
+pub converse : (arcs : List Arc) (preds succs : List (List ℕ)) → ((k : ℕ) → row_of preds k ≡ tails_into arcs k) → ((k : ℕ) → row_of succs k ≡ heads_from arcs k) → AreConverse preds succs
+converse arcs preds succs p s u v = (
+  λ h. rw (s u) (heads_from-Joins arcs u v ((preceded arcs preds p u v).0 h)),
+  λ i. (preceded arcs preds p u v).1 (Joins-from_heads arcs u v (rw (s u) at i)),
+)
+
+-- along the same arcs the same nodes are reached
+pub reaches_same : (E F : ℕ → ℕ → Type 0) → ((u v : ℕ) → E u v ↔ F u v) → (v : ℕ) → Reaches E 0 v ↔ Reaches F 0 v
+reaches_same E F e v = (
+  λ r. (r.0, walk_along E F (λ a b. (e a b).0) 0 r.0 v r.1),
+  λ r. (r.0, walk_along F E (λ a b. (e a b).1) 0 r.0 v r.1),
+)

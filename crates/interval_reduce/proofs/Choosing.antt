@@ -23,24 +23,24 @@ pub least_without : (P : ℕ → Type 0) (xs : List ℕ) (i d : ℕ) (least : Op
     → IsLeastBefore P xs i least → IsLeastBefore P xs (i + 1) least
 least_without P xs i d None l without h = λ v q. elim (IsIn-more_cases xs i d v l q.0) [ inl old ↦ h v (old, q.1) | inr same ↦ without (rw same q.1) ]
 least_without P xs i d (Some w) l without h = (
-    (IsIn-more_old xs i d w l h.0.0, h.0.1),
-    λ v q. elim (IsIn-more_cases xs i d v l q.0) [ inl old ↦ h.1 v (old, q.1) | inr same ↦ absurd (without (rw same q.1)) ]
+  (IsIn-more_old xs i d w l h.0.0, h.0.1),
+  λ v q. elim (IsIn-more_cases xs i d v l q.0) [ inl old ↦ h.1 v (old, q.1) | inr same ↦ absurd (without (rw same q.1)) ],
 )
 
 pub least_above : (P : ℕ → Type 0) (xs : List ℕ) (i d : ℕ) (least : Option ℕ) → i < length xs → (IsBelow (get_or xs i d) least → ⊥)
     → IsLeastBefore P xs i least → IsLeastBefore P xs (i + 1) least
 least_above P xs i d None l without h = absurd (without tt)
 least_above P xs i d (Some w) l without h = (
-    (IsIn-more_old xs i d w l h.0.0, h.0.1),
-    λ v q. elim (IsIn-more_cases xs i d v l q.0) [ inl old ↦ h.1 v (old, q.1) | inr same ↦ omega arith ]
+  (IsIn-more_old xs i d w l h.0.0, h.0.1),
+  λ v q. elim (IsIn-more_cases xs i d v l q.0) [ inl old ↦ h.1 v (old, q.1) | inr same ↦ omega arith ],
 )
 
 -- a lesser node with the property is the new least
 pub least_new : (P : ℕ → Type 0) (xs : List ℕ) (i d : ℕ) (least : Option ℕ) → i < length xs → IsBelow (get_or xs i d) least → P (get_or xs i d)
     → IsLeastBefore P xs i least → IsLeastBefore P xs (i + 1) (Some (get_or xs i d))
 least_new P xs i d least l below has h = (
-    (IsIn-more_new xs i d l, has),
-    λ v q. elim (IsIn-more_cases xs i d v l q.0) [ inl old ↦ from_old v least below h old q.1 | inr same ↦ omega arith ]
+  (IsIn-more_new xs i d l, has),
+  λ v q. elim (IsIn-more_cases xs i d v l q.0) [ inl old ↦ from_old v least below h old q.1 | inr same ↦ omega arith ],
 )
   where
     from_old : (v : ℕ) (o : Option ℕ) → IsBelow (get_or xs i d) o → IsLeastBefore P xs i o → IsIn (take i xs) v → P v → get_or xs i d ≤ v

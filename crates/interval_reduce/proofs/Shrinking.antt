@@ -52,14 +52,14 @@ IsCounted level = (length level ≤ length (members_of level)) × (AreSingle lev
 
 counted_cons : (i : Interval) (rest : List Interval) → 0 < length i.members → IsCounted rest → IsCounted (i ∷ rest)
 counted_cons i rest l c = (
-    omega (arith, length-append i.members (members_of rest), c.0),
-    elim c.1 [
-      | inr less ↦ inr (omega (arith, length-append i.members (members_of rest), less))
-      | inl single ↦ elim (eqb_tells (length i.members) 1) [
-          | inl one ↦ inl (single_cons i rest one.1 single)
-          | inr more ↦ let m = more.1 in inr (omega (arith, length-append i.members (members_of rest), c.0))
-        ]
+  omega (arith, length-append i.members (members_of rest), c.0),
+  elim c.1 [
+    | inr less ↦ inr (omega (arith, length-append i.members (members_of rest), less))
+    | inl single ↦ elim (eqb_tells (length i.members) 1) [
+      | inl one ↦ inl (single_cons i rest one.1 single)
+      | inr more ↦ let m = more.1 in inr (omega (arith, length-append i.members (members_of rest), c.0))
     ]
+  ],
 )
 
 counted : (N : ℕ → Type 0) (E : ℕ → ℕ → Type 0) (earlier : List ℕ) (level : List Interval) → GoesOn N E earlier level → IsCounted level
@@ -70,48 +70,8 @@ level_counted : (N : ℕ → Type 0) (E : ℕ → ℕ → Type 0) (level : List 
 level_counted N E [] h = absurd h
 level_counted N E (i ∷ rest) h = counted_cons i rest (interval_length N E [] 0 i.members h.1) (counted N E i.members rest h.2)
 
-pub next_shorter : (N : ℕ → Type 0) (E : ℕ → ℕ → Type 0) (nodes : List ℕ) (level : List Interval) → IsLevel N E level → (IsLastLevel level → ⊥) → Differ (members_of level)
-    → ((v : ℕ) → IsIn (members_of level) v → IsIn nodes v) → length (heads_of level) < length nodes
-next_shorter N E nodes level h last d within =
-    let l = length-le_from_members (members_of level) nodes d within in
-    elim (level_counted N E level h).1 [
-      | inl single ↦ absurd (last (inr single))
-      | inr less ↦ omega (arith, length-map level (λ (i : Interval). i.head), less, l)
-    ]
-
--- each head is a member
-head_member : (N : ℕ → Type 0) (E : ℕ → ℕ → Type 0) (earlier : List ℕ) (head : ℕ) (members : List ℕ) → IsIntervalOf N E earlier head members → IsIn members head
-head_member N E earlier head members h = rw h.1 (inl refl)
-
-heads_cons : (i : Interval) (rest : List Interval) → IsIn i.members i.head → ((v : ℕ) → IsIn (heads_of rest) v → IsIn (members_of rest) v)
-    → (v : ℕ) → IsIn (heads_of (i ∷ rest)) v → IsIn (members_of (i ∷ rest)) v
-heads_cons i rest m r v (inl e) = IsIn-append_left i.members (members_of rest) v (rw e at m)
-heads_cons i rest m r v (inr h) = IsIn-append_right i.members (members_of rest) v (r v h)
-
-heads_members : (N : ℕ → Type 0) (E : ℕ → ℕ → Type 0) (earlier : List ℕ) (level : List Interval) → GoesOn N E earlier level
-    → (v : ℕ) → IsIn (heads_of level) v → IsIn (members_of level) v
-heads_members N E earlier [] g v h = h
-heads_members N E earlier (i ∷ rest) g v h =
-    heads_cons i rest (head_member N E earlier i.head i.members g.1) (heads_members N E (earlier ++ i.members) rest g.2) v h
-
-pub level_heads_members : (N : ℕ → Type 0) (E : ℕ → ℕ → Type 0) (level : List Interval) → IsLevel N E level → (v : ℕ) → IsIn (heads_of level) v → IsIn (members_of level) v
-level_heads_members N E [] h v i = i
-level_heads_members N E (j ∷ rest) h v i =
-    heads_cons j rest (rw (← h.0) at (head_member N E [] 0 j.members h.1)) (heads_members N E j.members rest h.2) v i
-
--- node 0 is the first head
-pub level_first : (N : ℕ → Type 0) (E : ℕ → ℕ → Type 0) (level : List Interval) → IsLevel N E level → IsIn (heads_of level) 0
-level_first N E [] h = h
-level_first N E (i ∷ rest) h = inl h.0
-
--- where the heads are below a limit, so are the owners of what is below it
-pub owner_below : (n : ℕ) (level : List Interval) → ((v : ℕ) → IsIn (heads_of level) v → v < n) → (v : ℕ) → v < n → owner level v < n
-owner_below n [] b v l = l
-owner_below n (i ∷ rest) b v l = by_test (owner_below n rest (λ w h. b w (inr h)) v l) (holds i v)
-  where
-    by_test : owner rest v < n → (t : Bool) → cond t i.head (owner rest v) < n
-    by_test below true = b i.head (inl refl)
-    by_test below false = below
+pub more_members : (N : ℕ → Type 0) (E : ℕ → ℕ → Type 0) (level : List Interval) → IsLevel N E level → (IsLastLevel level → ⊥) → length level < length (members_of level)
+more_members N E level h last = elim (level_counted N E level h).1 [ inl single ↦ absurd (last (inr single)) | inr less ↦ less ]
 
 -- intervals up to one more
 pub single_push : (level : List Interval) (i : Interval) → AreSingle level → length i.members ≡ 1 → AreSingle (level ++ i ∷ [])

@@ -4,4 +4,4 @@ pub mod Derivation
 pub mod Laws
 pub mod Choice
 pub mod Growth
-pub mod LevelGraph
+pub mod Arcs

@@ -1,13 +1,13 @@
-//! The least node of a level that an interval may take, and the least that may be a head.
+//! The least node of a border, and the least that an interval may take.
 ghost use Rattle.std.specs.Prelude.{◌≡◌, ℕ, ◌<◌, ◌↔◌, length, IsTrue};
 ghost use Rattle.il_core.specs.LineGraph.{IsIn};
 ghost use Rattle.flow_graph.specs.Search.{IsMarked, AreBelow, StayBelow, row_of};
-ghost use Rattle.interval_reduce.specs.Choice.{IsFitting, IsNext, IsLeastOf, IsBelow};
+ghost use Rattle.interval_reduce.specs.Choice.{IsFitting, IsLeastOf, IsBelow};
 
 use il_core::List;
 
 /// The row at `at`.
-fn row_at(rows: &[List<usize>], at: usize) -> &[usize]
+pub fn row_at(rows: &[List<usize>], at: usize) -> &[usize]
     requires { at < length rows.now }
     ensures { result.now ≡ row_of rows.now at }
 {
@@ -27,19 +27,6 @@ fn are_marked(row: &[usize], marks: &[bool]) -> bool
     true
 }
 
-/// Whether some node of a row is marked.
-fn is_some_marked(row: &[usize], marks: &[bool]) -> bool
-    requires { AreBelow (length marks.now) row.now }
-    ensures { IsTrue result ↔ ((u : ℕ) × IsIn row.now u × IsMarked marks.now u) }
-{
-    for node in row {
-        if marks[*node] {
-            return true;
-        }
-    }
-    false
-}
-
 /// Whether a node is less than the least so far, if there is one.
 fn is_less(node: usize, least: Option<usize>) -> bool
     ensures { IsTrue result ↔ IsBelow node least }
@@ -50,38 +37,29 @@ fn is_less(node: usize, least: Option<usize>) -> bool
     }
 }
 
-/// The least node in no interval whose predecessors are all inside the interval in the making; `None` where there is none.
-pub fn least_fitting(
-    nodes: &[usize],
-    preds: &[List<usize>],
-    taken: &[bool],
-    inside: &[bool],
-) -> Option<usize>
-    requires taken { length taken.now ≡ length preds.now }
+/// The least node of a border whose predecessors are all inside; `None` where there is none.
+pub fn least_fitting(border: &[usize], preds: &[List<usize>], inside: &[bool]) -> Option<usize>
     requires inside { length inside.now ≡ length preds.now }
-    requires nodes { AreBelow (length preds.now) nodes.now }
+    requires border { AreBelow (length preds.now) border.now }
     requires rows { StayBelow (length preds.now) preds.now }
-    ensures { IsLeastOf (IsFitting nodes.now preds.now taken.now inside.now) result }
+    ensures { IsLeastOf (IsFitting border.now preds.now inside.now) result }
 {
     let mut least = None;
-    for node in nodes {
-        if is_less(*node, least) && !taken[*node] && are_marked(row_at(preds, *node), inside) {
+    for node in border {
+        if is_less(*node, least) && are_marked(row_at(preds, *node), inside) {
             least = Some(*node);
         }
     }
     least
 }
 
-/// The least node in no interval with a predecessor in one; `None` where there is none.
-pub fn least_next(nodes: &[usize], preds: &[List<usize>], taken: &[bool]) -> Option<usize>
-    requires taken { length taken.now ≡ length preds.now }
-    requires nodes { AreBelow (length preds.now) nodes.now }
-    requires rows { StayBelow (length preds.now) preds.now }
-    ensures { IsLeastOf (IsNext nodes.now preds.now taken.now) result }
+/// The least node of a border; `None` where it is empty.
+pub fn least_of(border: &[usize]) -> Option<usize>
+    ensures { IsLeastOf (IsIn border.now) result }
 {
     let mut least = None;
-    for node in nodes {
-        if is_less(*node, least) && !taken[*node] && is_some_marked(row_at(preds, *node), taken) {
+    for node in border {
+        if is_less(*node, least) {
             least = Some(*node);
         }
     }

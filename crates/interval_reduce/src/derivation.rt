@@ -5,8 +5,8 @@ ghost use Rattle.flow_graph.specs.Graph.{IsWellFormed};
 ghost use Rattle.control_flow.specs.Control.{IsControlOf};
 ghost use Rattle.interval_reduce.specs.Derivation.{IsDerivationOf, Reduces, taken, order_of};
 
+use crate::arcs::first_arcs;
 use crate::interval::{Derivation, Interval};
-use crate::level_graph::first_graph;
 use crate::levels::levels_from;
 use control_flow::{Control, Shape};
 use flow_graph::FlowGraph;
@@ -24,11 +24,7 @@ fn taken(interval: &Interval) -> &[usize]
 }
 
 /// Adds what an interval takes, without line `last`.
-fn add_interval(
-    order: &mut List<usize>,
-    last: usize,
-    interval: &Interval,
-) -> Result<(), NoMemory>
+fn add_interval(order: &mut List<usize>, last: usize, interval: &Interval) -> Result<(), NoMemory>
     ensures { OnOk result (order.new ≡ order.old ++ filter (λ v. not (nat_eq (v + 1) (last + 1))) (taken interval.now)) }
 {
     for node in taken(interval) {
@@ -50,11 +46,7 @@ fn add_level(order: &mut List<usize>, last: usize, level: &[Interval]) -> Result
 }
 
 /// What intervals take, level by level, without line `last`.
-fn order_of(
-    alloc: Global,
-    last: usize,
-    levels: &[List<Interval>],
-) -> Result<List<usize>, NoMemory>
+fn order_of(alloc: Global, last: usize, levels: &[List<Interval>]) -> Result<List<usize>, NoMemory>
     ensures { IfOk result (λ order. order ≡ order_of (last + 1) levels.now) }
 {
     let mut order = List::new(alloc);
@@ -75,18 +67,14 @@ fn order_of(
 ///
 /// Intervals are those of Allen and Cocke, A program data flow analysis procedure, 1976; that the nodes are taken in
 /// their order makes the answer unique. Each level takes time at most quadratic in its nodes and arcs.
-pub fn derive(
-    alloc: Global,
-    graph: &FlowGraph,
-    control: &Control,
-) -> Result<Derivation, NoMemory>
+pub fn derive(alloc: Global, graph: &FlowGraph, control: &Control) -> Result<Derivation, NoMemory>
     requires formed { IsWellFormed graph.now }
     requires control { IsControlOf graph.now control.now }
     ensures derived { IfOk result (λ d. IsDerivationOf graph.now control.now.shape d) }
     ensures reduces { IfOk result (λ d. Reduces graph.now control.now.shape d) }
 {
     let count = graph.nodes.len();
-    let levels = levels_from(alloc, count, first_graph(alloc, graph)?)?;
+    let levels = levels_from(alloc, count, first_arcs(alloc, graph)?)?;
     let order = match control.shape {
         Shape::Reducible => order_of(alloc, count - 1, levels.as_slice())?,
         Shape::TwoEntries(_) => List::new(alloc),

@@ -1,27 +1,25 @@
 //! The levels of a graph.
 ghost use Rattle.std.specs.Prelude.{◌≡◌, ℕ, ◌↔◌, length, IfOk, IsTrue};
-ghost use Rattle.il_core.specs.LineGraph.{IsIn};
 ghost use Rattle.flow_graph.specs.Graph.{Joins};
-ghost use Rattle.flow_graph.specs.Reached.{Differ};
-ghost use Rattle.interval_reduce.specs.Growth.{members_of};
+ghost use Rattle.flow_graph.specs.Search.{Reaches};
 ghost use Rattle.interval_reduce.specs.Level.{IsLevel, AreSingle, IsLastLevel};
-ghost use Rattle.interval_reduce.specs.LevelGraph.{IsLevelGraph, AreLevelsFrom};
+ghost use Rattle.interval_reduce.specs.Arcs.{AreSpread, AreLevelsFrom};
 
+use crate::arcs::{head_rows, next_arcs, tail_rows};
 use crate::growth::level;
 use crate::interval::Interval;
-use crate::level_graph::{LevelGraph, next_graph, tail_rows};
+use flow_graph::Arc;
 use il_core::{List, NoMemory};
 use std::alloc::Global;
 
 /// The intervals of the graph of a level.
-fn level_of(alloc: Global, count: usize, graph: &LevelGraph) -> Result<List<Interval>, NoMemory>
-    requires { IsLevelGraph count graph.now }
-    ensures level { IfOk result (λ l. IsLevel (IsIn graph.now.nodes) (Joins graph.now.arcs) l) }
-    ensures nodes { IfOk result (λ l. (v : ℕ) → IsIn (members_of l) v → IsIn graph.now.nodes v) }
-    ensures once { IfOk result (λ l. Differ (members_of l)) }
+fn level_of(alloc: Global, count: usize, arcs: &[Arc]) -> Result<List<Interval>, NoMemory>
+    requires { AreSpread count arcs.now }
+    ensures { IfOk result (λ l. IsLevel (Reaches (Joins arcs.now) 0) (Joins arcs.now) l) }
 {
-    let preds = tail_rows(alloc, count, graph.arcs.as_slice())?;
-    let intervals = level(alloc, graph.nodes.as_slice(), preds.as_slice())?;
+    let preds = tail_rows(alloc, count, arcs)?;
+    let succs = head_rows(alloc, count, arcs)?;
+    let intervals = level(alloc, preds.as_slice(), succs.as_slice())?;
     Ok(intervals)
 }
 
@@ -48,20 +46,20 @@ fn is_last(level: &[Interval]) -> bool
 pub fn levels_from(
     alloc: Global,
     count: usize,
-    first: LevelGraph,
+    first: List<Arc>,
 ) -> Result<List<List<Interval>>, NoMemory>
-    requires { IsLevelGraph count first }
-    ensures { IfOk result (λ l. AreLevelsFrom (IsIn first.nodes) (Joins first.arcs) l) }
+    requires { AreSpread count first }
+    ensures { IfOk result (λ l. AreLevelsFrom (Reaches (Joins first) 0) (Joins first) l) }
 {
     let mut levels = List::new(alloc);
-    let mut graph = first;
+    let mut arcs = first;
     loop {
-        let intervals = level_of(alloc, count, &graph)?;
+        let intervals = level_of(alloc, count, arcs.as_slice())?;
         if is_last(intervals.as_slice()) {
             levels.push(intervals)?;
             return Ok(levels);
         }
-        graph = next_graph(alloc, count, graph.arcs.as_slice(), intervals.as_slice())?;
+        arcs = next_arcs(alloc, count, arcs.as_slice(), intervals.as_slice())?;
         levels.push(intervals)?;
     }
 }

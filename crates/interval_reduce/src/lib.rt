@@ -3,12 +3,12 @@
 //! one node exactly where no cycle can be entered first at two nodes.
 #![tactic(auto)]
 
+mod arcs;
 mod choice;
 mod derivation;
 mod growth;
 mod interval;
 mod laws;
-mod level_graph;
 mod levels;
 
 pub use derivation::derive;

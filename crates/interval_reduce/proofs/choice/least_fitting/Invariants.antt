@@ -3,4 +3,4 @@ use Rattle.interval_reduce.proofs.Choosing.{IsLeastBefore}
 use Rattle.interval_reduce.proofs.choice.least_fitting.Given as goal
 
 abbrev pub invariant-loop-node : goal.invariant-loop-node
-invariant-loop-node l = IsLeastBefore (IsFitting l.nodes l.preds l.taken l.inside) l.nodes l.node-index l.least
+invariant-loop-node l = IsLeastBefore (IsFitting l.border l.preds l.inside) l.border l.node-index l.least

@@ -1,13 +1,16 @@
-use Rattle.std.proofs.Common.{◌≡◌, refl, ap, ◌∙◌, sym, ℕ, ◌+◌, ◌-◌, List, length, arith}
-use Rattle.interval_reduce.specs.Derivation.{order_of, order_by}
-use Rattle.interval_reduce.proofs.Descending.{levels_of_graph}
+use Rattle.std.proofs.Common.{◌≡◌, refl, ap, ◌+◌, ◌-◌, length, arith}
+use Rattle.interval_reduce.specs.Derivation.{order_of}
+use Rattle.interval_reduce.proofs.Descending.{first_spread, levels_of_graph}
 use Rattle.interval_reduce.proofs.ReductionGraph.{reduces}
 use Rattle.interval_reduce.proofs.derivation.derive.Goals as goal
 use Rattle.interval_reduce.proofs.derivation.derive.Goals.{in-Reducible+in_ok-order-in-Reducible, in-TwoEntries}
 
+pub levels_from-requires : goal.levels_from-requires
+levels_from-requires c = rw c.len-count.ensures (first_spread c.args.graph.now c.in_ok-first_arcs.field-0 c.requires.formed c.in_ok-first_arcs.ensures)
+
 pub returns-clause-derived : goal.returns-clause-derived
 returns-clause-derived c = record {
-  levels = levels_of_graph c.args.graph.now c.in_ok-first_graph.field-0 c.in_ok-levels.levels c.in_ok-first_graph.ensures.nodes c.in_ok-first_graph.ensures.arcs c.in_ok-levels.ensures;
+  levels = levels_of_graph c.args.graph.now c.in_ok-first_arcs.field-0 c.in_ok-levels.levels c.requires.formed c.in_ok-first_arcs.ensures c.in_ok-levels.ensures;
   order = elim c.match-control.branch [
     | in-Reducible+in_ok-order-in-Reducible w ↦
         let n : (c.len-count.result - 1) + 1 ≡ length c.args.graph.now.nodes = let s = c.requires.formed.some_nodes in omega (arith, c.len-count.ensures, s) in

@@ -5,9 +5,9 @@ use Rattle.interval_reduce.proofs.levels.are_single.Goals as goal
 
 pub returns-then-len-ne1 : goal.returns-then-len-ne1
 returns-then-len-ne1 c = (
-    λ e. cc,
-    λ s. let l : length (c.interval-item.result).members ≡ 1 = rw (← c.interval-item.is) at (single_at c.args.level.now c.loop-interval.interval-index c.interval-item.result c.loop-interval-test.true s) in
-        absurd (c.if-len-ne1.true (c.len.ensures ∙ l))
+  λ e. cc,
+  λ s. let l : length (c.interval-item.result).members ≡ 1 = rw (← c.interval-item.is) at (single_at c.args.level.now c.loop-interval.interval-index c.interval-item.result c.loop-interval-test.true s) in
+      absurd (c.if-len-ne1.true (c.len.ensures ∙ l)),
 )
 
 pub loop-interval-preserved : goal.loop-interval-preserved

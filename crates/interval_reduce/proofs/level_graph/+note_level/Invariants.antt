@@ -1,5 +1,0 @@
-use Rattle.std.proofs.Common.{length}
-use Rattle.interval_reduce.proofs.level_graph.+note_level.Given as goal
-
-abbrev pub decreases-note_level : goal.decreases-note_level
-decreases-note_level l = length l.level.now

@@ -1,8 +1,0 @@
-use Rattle.std.proofs.Common.{ℕ, take}
-use Rattle.std.specs.Prelude.{◌↔◌, slice_index}
-use Rattle.flow_graph.specs.Graph.{Joins}
-use Rattle.interval_reduce.specs.LevelGraph.{IsCarried}
-use Rattle.interval_reduce.proofs.level_graph.carried_arcs.Given as goal
-
-abbrev pub invariant-loop-arc : goal.invariant-loop-arc
-invariant-loop-arc l = (a b : ℕ) → Joins l.carried a b ↔ IsCarried (slice_index l.owners) (take l.arc-index l.arcs) a b
