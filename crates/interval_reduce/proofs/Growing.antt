@@ -2,13 +2,13 @@
 use Rattle.std.proofs.Common.{◌≡◌, ◌≢◌, ◌⊎◌, inl, inr, refl, sym, ◌∙◌, ap, ℕ, ◌+◌, ◌<◌, Bool, true, false, cond, eqb, Option, Some, None, List, [], ◌∷◌, ◌++◌, length, set, get_or, take, replicate, arith, append-nil, append_assoc}
 use Rattle.std.specs.Prelude.{not, ◌==◌, filter, ◌↔◌}
 use Rattle.std.specs.List.{count_by}
-use Rattle.std.proofs.lemmas.List.{length-set, length-replicate, flat_map_more}
+use Rattle.std.proofs.lemmas.List.{length-set, get_or-set_same, get_or-set_other, flat_map_more}
 use Rattle.std.proofs.lemmas.List.Sums.{sum_by-set}
 use Rattle.std.proofs.lemmas.Bool.Decides.{eqb_tells}
 use Rattle.il_core.specs.LineGraph.{IsIn}
 use Rattle.flow_graph.specs.Search.{IsMarked, IsUnmarked, IsWalk, Reaches, row_of}
 use Rattle.flow_graph.proofs.Members.{IsIn-append_left, IsIn-append_right, IsIn-append_cases, IsIn-push, IsIn-push_cases, IsIn-more_cases, IsIn-more_old, IsIn-more_new}
-use Rattle.flow_graph.proofs.Spreading.{marked_new, marked_old, marked_cases, none_marked, walk_on}
+use Rattle.flow_graph.proofs.Spreading.{marked_within, marked_new, marked_old, marked_cases, none_marked, walk_on}
 use Rattle.interval_reduce.specs.declared.interval.Interval.{Interval}
 use Rattle.interval_reduce.specs.Interval.{IsLeast, Fits, Takes, IsIntervalOf}
 use Rattle.interval_reduce.specs.Level.{MayBeHead, GoesOn, IsLevel}
@@ -187,55 +187,75 @@ fits_same preds earlier members border inside o b n z = least_same (IsFitting bo
         out i = elim (IsIn-append_cases earlier members v i) [ inl e ↦ f.not_earlier e | inr t ↦ f.not_taken t ]
 
 -- what stays true while an interval grows
-pub record Growing (preds : List (List ℕ)) (earlier : List ℕ) (head : ℕ) (taken inside : List Bool) (border members : List ℕ) : Type 0 where
+pub record Growing (preds : List (List ℕ)) (earlier : List ℕ) (head : ℕ) (taken : List Bool) (border members : List ℕ) : Type 0 where
   pub marked : AreMarked taken (earlier ++ members)
-  pub within : AreMarked inside members
   pub at_border : IsBorder (Reaches (Precedes preds) 0) (Precedes preds) (earlier ++ members) border
   pub start : IsIn (earlier ++ members) 0
   pub goes : (more : List ℕ) → Takes (Reaches (Precedes preds) 0) (Precedes preds) earlier members more
       → IsIntervalOf (Reaches (Precedes preds) 0) (Precedes preds) earlier head (members ++ more)
 
-pub growing_start : (preds succs : List (List ℕ)) (earlier : List ℕ) (head : ℕ) (was none taken inside : List Bool) (before border members : List ℕ) (n : ℕ)
-    → AreConverse preds succs → Reaches (Precedes preds) 0 head → head < length was → head < n → none ≡ replicate n false
-    → taken ≡ set was head true → inside ≡ set none head true → members ≡ head ∷ [] → IsBorderAfter head (row_of succs head) taken before border
+pub growing_start : (preds succs : List (List ℕ)) (earlier : List ℕ) (head : ℕ) (was taken : List Bool) (before border members : List ℕ)
+    → AreConverse preds succs → Reaches (Precedes preds) 0 head → head < length was
+    → taken ≡ set was head true → members ≡ head ∷ [] → IsBorderAfter head (row_of succs head) taken before border
     → AreMarked was earlier → IsBorder (Reaches (Precedes preds) 0) (Precedes preds) earlier before → IsIn (earlier ++ head ∷ []) 0
-    → Growing preds earlier head taken inside border members
-growing_start preds succs earlier head was none taken inside before border members n c r l below e t s h after m b z =
+    → Growing preds earlier head taken border members
+growing_start preds succs earlier head was taken before border members c r l t h after m b z =
     let k : AreMarked taken (earlier ++ head ∷ []) = rw t (AreMarked-push was earlier head l m) in
-    let i : AreMarked inside (head ∷ []) = rw (s, e) (AreMarked-push (replicate n false) [] head (omega (arith, length-replicate n false)) (AreMarked-none n)) in
     rw h (record {
       marked = k;
-      within = i;
       at_border = IsBorder-push (Precedes preds) earlier head (row_of succs head) taken before border r (λ v. c head v) k after b;
       start = z;
       goes = λ more g. (more, refl, g);
     })
 
-pub growing_on : (preds succs : List (List ℕ)) (earlier : List ℕ) (head v : ℕ) (was held taken inside : List Bool) (before border old members : List ℕ)
-    → AreConverse preds succs → IsLeastOf (IsFitting before preds held) (Some v) → v < length was → v < length held
-    → taken ≡ set was v true → inside ≡ set held v true → members ≡ old ++ v ∷ [] → IsBorderAfter v (row_of succs v) taken before border
-    → Growing preds earlier head was held before old → Growing preds earlier head taken inside border members
-growing_on preds succs earlier head v was held taken inside before border old members c least l k t s e after g =
+pub growing_on : (preds succs : List (List ℕ)) (earlier : List ℕ) (head v : ℕ) (was held taken : List Bool) (before border old members : List ℕ)
+    → AreConverse preds succs → IsLeastOf (IsFitting before preds held) (Some v) → v < length was
+    → taken ≡ set was v true → members ≡ old ++ v ∷ [] → IsBorderAfter v (row_of succs v) taken before border → AreMarked held old
+    → Growing preds earlier head was before old → Growing preds earlier head taken border members
+growing_on preds succs earlier head v was held taken before border old members c least l t e after within g =
     let m : AreMarked taken ((earlier ++ old) ++ v ∷ []) = rw t (AreMarked-push was (earlier ++ old) v l g.marked) in
-    let i : AreMarked inside (old ++ v ∷ []) = rw s (AreMarked-push held old v k g.within) in
     let b = IsBorder-push (Precedes preds) (earlier ++ old) v (row_of succs v) taken before border ((g.at_border v).0 least.0.0).node (λ w. c v w) m after g.at_border in
     let z = IsIn-append_left (earlier ++ old) (v ∷ []) 0 g.start in
     rw e (record {
       marked = rw (append_assoc earlier old (v ∷ [])) at m;
-      within = i;
       at_border = rw (append_assoc earlier old (v ∷ [])) at b;
       start = rw (append_assoc earlier old (v ∷ [])) at z;
-      goes = λ more h. rw (append_assoc old (v ∷ []) more) (g.goes (v ∷ more) (fits_same preds earlier old before held (Some v) g.at_border g.within g.start least, h));
+      goes = λ more h. rw (append_assoc old (v ∷ []) more) (g.goes (v ∷ more) (fits_same preds earlier old before held (Some v) g.at_border within g.start least, h));
     })
 
 pub growing_end : (preds : List (List ℕ)) (earlier : List ℕ) (head : ℕ) (taken inside : List Bool) (border members : List ℕ)
-    → IsLeastOf (IsFitting border preds inside) None → Growing preds earlier head taken inside border members
+    → IsLeastOf (IsFitting border preds inside) None → AreMarked inside members → Growing preds earlier head taken border members
     → IsTakenNext (Reaches (Precedes preds) 0) (Precedes preds) earlier (record { head = head; members = members }) taken border
-growing_end preds earlier head taken inside border members none g = record {
-  interval = rw (append-nil members) at (g.goes [] (fits_same preds earlier members border inside None g.at_border g.within g.start none));
+growing_end preds earlier head taken inside border members none within g = record {
+  interval = rw (append-nil members) at (g.goes [] (fits_same preds earlier members border inside None g.at_border within g.start none));
   marked = g.marked;
   at_border = g.at_border;
 }
+
+-- marks of members, where one is added
+pub within_push : (was inside : List Bool) (old members : List ℕ) (v : ℕ) → v < length was → inside ≡ set was v true → members ≡ old ++ v ∷ [] → AreMarked was old → AreMarked inside members
+within_push was inside old members v l s e m = rw (s, e) (AreMarked-push was old v l m)
+
+-- a node that is unmarked is marked no more
+pub unmarked_more : (start was : List Bool) (nodes : List ℕ) (i : ℕ) → i < length nodes → get_or nodes i 0 < length was
+    → ((v : ℕ) → IsMarked was v → IsMarked start v × (IsIn (take i nodes) v → ⊥))
+    → (v : ℕ) → IsMarked (set was (get_or nodes i 0) false) v → IsMarked start v × (IsIn (take (i + 1) nodes) v → ⊥)
+unmarked_more start was nodes i l k h v m = elim (eqb_tells v (get_or nodes i 0)) [
+  | inl same ↦
+      let n : get_or (set was (get_or nodes i 0) false) (get_or nodes i 0) false ≡ false = get_or-set_same was (get_or nodes i 0) false false k in
+      absurd (unmarked_not (set was (get_or nodes i 0) false) (get_or nodes i 0) n (rw same.1 at m))
+  | inr other ↦
+      let o = h v (sym (get_or-set_other was (get_or nodes i 0) v false false other.1) ∙ m) in
+      (o.0, λ j. elim (IsIn-more_cases nodes i 0 v l j) [ inl old ↦ o.1 old | inr same ↦ other.1 (sym same) ])
+]
+
+-- where all marked nodes are unmarked, none is
+pub none_left : (was now : List Bool) (members nodes : List ℕ) → nodes ≡ members → AreMarked was members → ((v : ℕ) → IsMarked now v → IsMarked was v × (IsIn nodes v → ⊥)) → AreMarked now []
+none_left was now members nodes e m h v = (λ k. let q = h v k in q.1 (rw e ((m v).0 q.0)), λ i. absurd i)
+
+-- members are below the number of marks
+pub members_within : (marks : List Bool) (members : List ℕ) → AreMarked marks members → (v : ℕ) → IsIn members v → v < length marks
+members_within marks members m v i = marked_within marks v ((m v).1 i)
 
 -- what stays true while intervals are made
 pub record Leveling (preds : List (List ℕ)) (level : List Interval) (taken : List Bool) (border : List ℕ) : Type 0 where

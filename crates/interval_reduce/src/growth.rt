@@ -1,10 +1,10 @@
 //! The intervals of one level: each grows from its head until it may take no more.
-ghost use Rattle.std.specs.Prelude.{◌≡◌, ℕ, ◌<◌, ◌⊎◌, ◌↔◌, ◌++◌, ◌∷◌, ◌==◌, not, true, false, filter, length, replicate, slice_set, IfOk, OnOk};
+ghost use Rattle.std.specs.Prelude.{◌≡◌, ℕ, ◌<◌, ◌⊎◌, ◌↔◌, ◌++◌, ◌∷◌, [], ◌==◌, not, true, false, filter, length, replicate, slice_set, IfOk, OnOk};
 ghost use Rattle.std.specs.List.{count_by};
 ghost use Rattle.il_core.specs.LineGraph.{IsIn};
-ghost use Rattle.flow_graph.specs.Search.{IsUnmarked, AreBelow, StayBelow, Reaches, row_of};
+ghost use Rattle.flow_graph.specs.Search.{IsMarked, IsUnmarked, AreBelow, StayBelow, Reaches, row_of};
 ghost use Rattle.interval_reduce.specs.Choice.{Precedes};
-ghost use Rattle.interval_reduce.specs.Growth.{AreFree, AreConverse, IsBorderAfter, TakesNext};
+ghost use Rattle.interval_reduce.specs.Growth.{AreMarked, AreFree, AreConverse, IsBorderAfter, TakesNext};
 ghost use Rattle.interval_reduce.specs.Level.{IsLevel};
 
 use crate::choice::{least_fitting, least_of, row_at};
@@ -59,16 +59,31 @@ fn take(
     Ok(())
 }
 
-/// The interval of a head behind earlier intervals, whose nodes are `taken` and whose border is `border`.
+/// Unmarks nodes.
+fn unmark(nodes: &[usize], marks: &mut Vec<bool>)
+    requires { AreBelow (length marks.old.items) nodes.now }
+    ensures size { length marks.new.items ≡ length marks.old.items }
+    ensures unmarked { (v : ℕ) → IsMarked marks.new.items v → IsMarked marks.old.items v × (IsIn nodes.now v → ⊥) }
+{
+    for node in nodes {
+        marks[*node] = false;
+    }
+}
+
+/// The interval of a head behind earlier intervals, whose nodes are `taken` and whose border is `border`. It finds no node
+/// marked in `inside`, and leaves none.
 pub fn interval(
     alloc: Global,
     head: usize,
     preds: &[List<usize>],
     succs: &[List<usize>],
     taken: &mut Vec<bool>,
+    inside: &mut Vec<bool>,
     border: &mut Vec<usize>,
 ) -> Result<Interval, NoMemory>
     requires taken { length taken.old.items ≡ length preds.now }
+    requires inside { length inside.old.items ≡ length preds.now }
+    requires none_inside { AreMarked inside.old.items [] }
     requires succs { length succs.now ≡ length preds.now }
     requires rows { StayBelow (length preds.now) preds.now }
     requires next_rows { StayBelow (length preds.now) succs.now }
@@ -79,11 +94,12 @@ pub fn interval(
     requires border { AreFree taken.old.items border.old.items }
     ensures head { IfOk result (λ i. i.head ≡ head) }
     ensures size { IfOk result (λ _. length taken.new.items ≡ length taken.old.items) }
+    ensures inside { IfOk result (λ _. length inside.new.items ≡ length inside.old.items) }
+    ensures none_inside { IfOk result (λ _. AreMarked inside.new.items []) }
     ensures border { IfOk result (λ _. AreFree taken.new.items border.new.items) }
     ensures fewer { IfOk result (λ _. count_by not taken.new.items < count_by not taken.old.items) }
     ensures next { IfOk result (λ i. TakesNext preds.now taken.old.items border.old.items i taken.new.items border.new.items) }
 {
-    let mut inside = no_marks(alloc, preds.len())?;
     let mut members = List::new(alloc);
     take(head, succs, taken, border)?;
     inside[head] = true;
@@ -93,6 +109,7 @@ pub fn interval(
         inside[node] = true;
         members.push(node)?;
     }
+    unmark(members.as_slice(), inside);
     Ok(Interval { head, members })
 }
 
@@ -110,11 +127,12 @@ pub fn level(
     ensures { IfOk result (λ l. IsLevel (Reaches (Precedes preds.now) 0) (Precedes preds.now) l) }
 {
     let mut taken = no_marks(alloc, preds.len())?;
+    let mut inside = no_marks(alloc, preds.len())?;
     let mut border = Vec::new(alloc);
     let mut level = List::new(alloc);
-    level.push(interval(alloc, 0, preds, succs, &mut taken, &mut border)?)?;
+    level.push(interval(alloc, 0, preds, succs, &mut taken, &mut inside, &mut border)?)?;
     while let Some(head) = least_of(border.as_slice()) {
-        level.push(interval(alloc, head, preds, succs, &mut taken, &mut border)?)?;
+        level.push(interval(alloc, head, preds, succs, &mut taken, &mut inside, &mut border)?)?;
     }
     Ok(level)
 }

@@ -12,10 +12,11 @@ abbrev pub invariant-loop-node : goal.invariant-loop-node
 invariant-loop-node l = record {
   taken_size : length l.taken.items ≡ length l.preds;
   inside_size : length l.inside.items ≡ length l.preds;
+  within : AreMarked l.inside.items l.members;
   free : AreFree l.taken.items l.border.items;
   fewer : count_by not l.taken.items < count_by not l.fn.taken.items;
   grown : (earlier : List ℕ) → AreMarked l.fn.taken.items earlier → IsBorder (Reaches (Precedes l.preds) 0) (Precedes l.preds) earlier l.fn.border.items
-      → IsIn (earlier ++ l.head ∷ []) 0 → Growing l.preds earlier l.head l.taken.items l.inside.items l.border.items l.members;
+      → IsIn (earlier ++ l.head ∷ []) 0 → Growing l.preds earlier l.head l.taken.items l.border.items l.members;
 }
 
 abbrev pub decreases-loop-node : goal.decreases-loop-node

@@ -15,6 +15,8 @@ loop-head-init c =
     = rw c.new-border.ensures.items (no_border (Reaches (Precedes c.args.preds.now) 0) (Precedes c.args.preds.now)) in
     record {
       size = c.in_ok-interval.ensures.size ∙ ap length c.in_ok-taken.ensures ∙ length-replicate _ _;
+      inside_size = c.in_ok-interval.ensures.inside ∙ ap length c.in_ok-inside.ensures ∙ length-replicate _ _;
+      none_inside = c.in_ok-interval.ensures.none_inside;
       free = c.in_ok-interval.ensures.border;
       going = leveling_start c.args.preds.now c.in_ok-interval.field-0 _ _ _ c.in_ok-interval.ensures.head
           (c.in_ok-interval.ensures.next [] none open_border (inl c.in_ok-interval.ensures.head))
@@ -28,6 +30,8 @@ loop-head-preserved c =
     let least : IsLeastOf (IsIn c.loop-head.border.items) (Some c.in-Some.head) = rw c.as_slice.ensures.value at c.in-Some.ensures in
     record {
       size = c.in_ok-interval-2.ensures.size ∙ c.loop-head.invariant.size;
+      inside_size = c.in_ok-interval-2.ensures.inside ∙ c.loop-head.invariant.inside_size;
+      none_inside = c.in_ok-interval-2.ensures.none_inside;
       free = c.in_ok-interval-2.ensures.border;
       going = leveling_on c.args.preds.now c.loop-head.level i _ _ c.loop-head.border.items _ (rw c.in_ok-interval-2.ensures.head least)
           (c.in_ok-interval-2.ensures.next (members_of c.loop-head.level) g.marked g.at_border (start_push (members_of c.loop-head.level) i.head g.start))
