@@ -16,3 +16,4 @@ pub mod Order
 pub mod ReductionGraph
 pub mod ReductionShape
 pub mod ReductionOnce
+pub mod Discovery
