@@ -1,10 +1,10 @@
 -- Graphs with the same nodes and the same arcs have the same levels.
-use Rattle.std.proofs.Common.{◌≡◌, ◌⊎◌, inl, inr, ℕ, List, [], ◌∷◌, ◌++◌}
+use Rattle.std.proofs.Common.{ℕ, List, [], ◌∷◌, ◌++◌}
 use Rattle.std.specs.Prelude.{◌↔◌}
 use Rattle.il_core.specs.LineGraph.{IsIn}
 use Rattle.interval_reduce.specs.declared.interval.Interval.{Interval}
 use Rattle.interval_reduce.specs.Interval.{IsLeast, Fits, Takes, IsIntervalOf}
-use Rattle.interval_reduce.specs.Level.{MayBeHead, GoesOn, IsLevel, IsLastLevel, NextArc, heads_of, AreLevels}
+use Rattle.interval_reduce.specs.Level.{MayBeHead, GoesOn, IsLevel, NextArc, heads_of, AreLevels}
 
 -- the same numbers have both properties
 abbrev pub AreAlike : (ℕ → Type 0) → (ℕ → Type 0) → Type 0

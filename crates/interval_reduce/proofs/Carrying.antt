@@ -1,11 +1,10 @@
 -- The graphs of levels: their nodes, their arcs, and the owners of nodes.
-use Rattle.std.proofs.Common.{◌≡◌, ◌≢◌, ◌⊎◌, inl, inr, refl, sym, ◌∙◌, ap, ℕ, zero, suc, ◌+◌, ◌<◌, ◌≤◌, Bool, true, false, cond, eqb, List, [], ◌∷◌, ◌++◌, length, set, get_or, take, drop, ◌-◌, arith}
+use Rattle.std.proofs.Common.{◌≡◌, ◌≢◌, inl, inr, refl, sym, ◌∙◌, ap, ℕ, ◌+◌, ◌<◌, Bool, true, false, cond, eqb, List, [], ◌∷◌, ◌++◌, length, set, get_or, take, drop, ◌-◌, arith}
 use Rattle.std.specs.Prelude.{◌↔◌, ◌||◌}
 use Rattle.std.specs.List.{list_any}
 use Rattle.std.proofs.lemmas.List.{get_or-set_same, get_or-set_other, take_rest}
 use Rattle.std.proofs.lemmas.List.Folds.{list_any_more}
 use Rattle.std.proofs.lemmas.Bool.Decides.{eqb_tells}
-use Rattle.il_core.specs.LineGraph.{IsIn}
 use Rattle.flow_graph.specs.declared.graph.Arc.{Arc}
 use Rattle.flow_graph.specs.Graph.{arc_to, Joins, heads_from, tails_into}
 use Rattle.flow_graph.specs.Search.{IsMarked, IsUnmarked, AreBelow, Reaches, row_of}
@@ -14,7 +13,7 @@ use Rattle.flow_graph.proofs.LineArcs.{Joins-from_heads, heads_from-Joins, Joins
 use Rattle.interval_reduce.specs.Choice.{Precedes}
 use Rattle.interval_reduce.specs.declared.interval.Interval.{Interval}
 use Rattle.interval_reduce.specs.Growth.{AreConverse, members_of}
-use Rattle.flow_graph.proofs.Members.{IsIn-get_or, IsIn-more_cases, IsIn-more_old, IsIn-more_new, IsIn-push, IsIn-push_cases, IsIn-append_left, IsIn-append_right}
+use Rattle.flow_graph.proofs.Members.{IsIn-more_cases, IsIn-more_old, IsIn-more_new, IsIn-push, IsIn-push_cases, IsIn-append_left, IsIn-append_right}
 use Rattle.interval_reduce.specs.Arcs.{IsCarried}
 
 -- the arcs of a front that leave marked lines, with one arc more

@@ -1,8 +1,8 @@
 -- A search for the least node with a property goes through the nodes in their order and keeps the least so far.
-use Rattle.std.proofs.Common.{◌≡◌, ◌⊎◌, inl, inr, refl, ℕ, ◌+◌, ◌<◌, ◌≤◌, Bool, true, false, Option, Some, None, List, length, take, get_or, arith}
+use Rattle.std.proofs.Common.{inl, inr, ℕ, ◌+◌, ◌<◌, ◌≤◌, Option, Some, None, List, length, take, get_or, arith}
 use Rattle.std.proofs.lemmas.List.{take_all}
 use Rattle.il_core.specs.LineGraph.{IsIn}
-use Rattle.flow_graph.proofs.Members.{IsIn-get_or, IsIn-more_cases, IsIn-more_old, IsIn-more_new}
+use Rattle.flow_graph.proofs.Members.{IsIn-more_cases, IsIn-more_old, IsIn-more_new}
 use Rattle.interval_reduce.specs.Choice.{IsLeastOf, IsBelow}
 
 -- what holds of each node of a front, and of the next node, holds of each of the front with one node more

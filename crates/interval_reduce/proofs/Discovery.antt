@@ -1,11 +1,11 @@
 -- Arcs spread from node 0 where each stands behind one that enters its tail: a test that computes.
-use Rattle.std.proofs.Common.{◌≡◌, ◌≢◌, inl, inr, refl, sym, ◌∙◌, ap, ℕ, ◌<◌, Bool, true, false, eqb, eq-eqb, ltb, List, [], ◌∷◌, ◌++◌, arith}
+use Rattle.std.proofs.Common.{◌≡◌, ◌≢◌, inl, inr, refl, ℕ, ◌<◌, Bool, true, false, eqb, eq-eqb, ltb, List, [], ◌∷◌, ◌++◌, arith}
 use Rattle.std.specs.Prelude.{not, ◌&&◌}
 use Rattle.std.specs.List.{list_any}
 use Rattle.std.proofs.lemmas.Bool.Decides.{nat_tests}
 use Rattle.il_core.specs.LineGraph.{IsIn}
 use Rattle.flow_graph.specs.declared.graph.Arc.{Arc}
-use Rattle.flow_graph.specs.Graph.{arc_to, Joins}
+use Rattle.flow_graph.specs.Graph.{Joins}
 use Rattle.flow_graph.specs.Search.{Reaches}
 use Rattle.flow_graph.proofs.Spreading.{walk_on}
 use Rattle.interval_reduce.specs.Arcs.{AreSpread}

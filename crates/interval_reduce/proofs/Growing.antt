@@ -6,14 +6,14 @@ use Rattle.std.proofs.lemmas.List.{length-set, get_or-set_same, get_or-set_other
 use Rattle.std.proofs.lemmas.List.Sums.{sum_by-set}
 use Rattle.std.proofs.lemmas.Bool.Decides.{eqb_tells}
 use Rattle.il_core.specs.LineGraph.{IsIn}
-use Rattle.flow_graph.specs.Search.{IsMarked, IsUnmarked, IsWalk, Reaches, row_of}
+use Rattle.flow_graph.specs.Search.{IsMarked, IsUnmarked, Reaches, row_of}
 use Rattle.flow_graph.proofs.Members.{IsIn-append_left, IsIn-append_right, IsIn-append_cases, IsIn-push, IsIn-push_cases, IsIn-more_cases, IsIn-more_old, IsIn-more_new}
 use Rattle.flow_graph.proofs.Spreading.{marked_within, marked_new, marked_old, marked_cases, none_marked, walk_on}
 use Rattle.interval_reduce.specs.declared.interval.Interval.{Interval}
-use Rattle.interval_reduce.specs.Interval.{IsLeast, Fits, Takes, IsIntervalOf}
+use Rattle.interval_reduce.specs.Interval.{Fits, Takes, IsIntervalOf}
 use Rattle.interval_reduce.specs.Level.{MayBeHead, GoesOn, IsLevel}
 use Rattle.interval_reduce.specs.Choice.{Precedes, IsLeastOf, IsFitting}
-use Rattle.interval_reduce.specs.Growth.{AreMarked, AreFree, IsBorder, IsBorderAfter, AreConverse, IsTakenNext, TakesNext, members_of}
+use Rattle.interval_reduce.specs.Growth.{AreMarked, AreFree, IsBorder, IsBorderAfter, AreConverse, IsTakenNext, members_of}
 use Rattle.interval_reduce.proofs.ReductionDown.{last_arc}
 
 -- a node is marked, or it is not

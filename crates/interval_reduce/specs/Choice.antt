@@ -1,5 +1,5 @@
 -- The least number with a property, and which of the nodes that arcs lead to from intervals an interval may take.
-use Rattle.std.specs.Prelude.{◌↔◌, ℕ, ◌<◌, Bool, Option, Some, None, List}
+use Rattle.std.specs.Prelude.{ℕ, ◌<◌, Bool, Option, Some, None, List}
 use Rattle.il_core.specs.LineGraph.{IsIn}
 use Rattle.flow_graph.specs.Search.{IsMarked, row_of}
 use Rattle.interval_reduce.specs.Interval.{IsLeast}

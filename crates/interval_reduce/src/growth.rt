@@ -132,7 +132,15 @@ pub fn level(
     let mut level = List::new(alloc);
     level.push(interval(alloc, 0, preds, succs, &mut taken, &mut inside, &mut border)?)?;
     while let Some(head) = least_of(border.as_slice()) {
-        level.push(interval(alloc, head, preds, succs, &mut taken, &mut inside, &mut border)?)?;
+        level.push(interval(
+            alloc,
+            head,
+            preds,
+            succs,
+            &mut taken,
+            &mut inside,
+            &mut border,
+        )?)?;
     }
     Ok(level)
 }

@@ -9,11 +9,7 @@ use std::alloc::Global;
 use std::test::Fail;
 
 /// The levels of a graph of `count` lines with these arcs.
-fn levels_of(
-    alloc: Global,
-    count: usize,
-    arcs: &[Arc],
-) -> Result<List<List<Interval>>, NoMemory>
+fn levels_of(alloc: Global, count: usize, arcs: &[Arc]) -> Result<List<List<Interval>>, NoMemory>
     requires { AreSpread count arcs.now }
 {
     let mut first = List::new(alloc);

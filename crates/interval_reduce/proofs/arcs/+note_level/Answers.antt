@@ -1,6 +1,5 @@
-use Rattle.std.proofs.Common.{◌<◌, length, take, drop, ◌-◌, arith, rules}
+use Rattle.std.proofs.Common.{arith, rules}
 use Rattle.std.proofs.lemmas.List.{length-take}
-use Rattle.interval_reduce.specs.declared.interval.Interval.{Interval}
 use Rattle.interval_reduce.proofs.Carrying.{first_below, others_below}
 use Rattle.interval_reduce.proofs.arcs.+note_level.Goals as goal
 

@@ -1,4 +1,4 @@
-use Rattle.std.proofs.Common.{◌≡◌, sym, ◌∙◌, get_or}
+use Rattle.std.proofs.Common.{sym, ◌∙◌}
 use Rattle.std.specs.Prelude.{slice_index}
 use Rattle.flow_graph.proofs.Members.{IsIn-get_or}
 use Rattle.interval_reduce.proofs.Carrying.{carried_push, carried_skip}

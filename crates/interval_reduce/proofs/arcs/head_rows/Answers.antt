@@ -1,4 +1,4 @@
-use Rattle.std.proofs.Common.{◌∙◌, refl, ap, ◌<◌, length, get_or, arith}
+use Rattle.std.proofs.Common.{◌∙◌, refl, ap, length, arith}
 use Rattle.std.proofs.lemmas.List.{length-set}
 use Rattle.flow_graph.proofs.Members.{IsIn-get_or}
 use Rattle.flow_graph.proofs.LineArcs.{heads_after}

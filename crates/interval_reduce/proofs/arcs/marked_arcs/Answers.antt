@@ -1,4 +1,3 @@
-use Rattle.std.proofs.Common.{get_or}
 use Rattle.flow_graph.proofs.Members.{IsIn-get_or}
 use Rattle.interval_reduce.proofs.Carrying.{marked_push, marked_skip}
 use Rattle.interval_reduce.proofs.arcs.marked_arcs.Goals as goal

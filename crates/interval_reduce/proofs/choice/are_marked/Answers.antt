@@ -1,4 +1,4 @@
-use Rattle.std.proofs.Common.{get_or, arith}
+use Rattle.std.proofs.Common.{get_or}
 use Rattle.flow_graph.specs.Search.{IsMarked}
 use Rattle.flow_graph.proofs.Members.{IsIn-get_or}
 use Rattle.interval_reduce.proofs.Choosing.{front_more, front_all}

@@ -1,7 +1,6 @@
 use Rattle.std.proofs.Common.{◌∙◌, ◌<◌, length, get_or, arith}
 use Rattle.std.proofs.lemmas.List.{length-set}
 use Rattle.flow_graph.proofs.Members.{IsIn-get_or}
-use Rattle.interval_reduce.proofs.Choosing.{front_all}
 use Rattle.interval_reduce.proofs.Growing.{unmarked_more}
 use Rattle.interval_reduce.proofs.growth.unmark.Goals as goal
 

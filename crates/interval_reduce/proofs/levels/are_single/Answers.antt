@@ -1,5 +1,5 @@
-use Rattle.std.proofs.Common.{◌≡◌, ◌∙◌, sym, length, get_or, arith}
-use Rattle.std.proofs.lemmas.List.{take_more, take_all}
+use Rattle.std.proofs.Common.{◌≡◌, ◌∙◌, sym, length}
+use Rattle.std.proofs.lemmas.List.{take_more}
 use Rattle.interval_reduce.proofs.Shrinking.{single_push, single_at}
 use Rattle.interval_reduce.proofs.levels.are_single.Goals as goal
 

@@ -1,4 +1,4 @@
-use Rattle.std.proofs.Common.{◌≡◌, ◌∙◌, ap, ℕ, ◌<◌, List, length, arith}
+use Rattle.std.proofs.Common.{◌≡◌, ◌∙◌, ap, ℕ, length, arith}
 use Rattle.flow_graph.specs.Graph.{Joins, heads_from, tails_into}
 use Rattle.flow_graph.specs.Search.{Reaches, row_of}
 use Rattle.interval_reduce.specs.Choice.{Precedes}

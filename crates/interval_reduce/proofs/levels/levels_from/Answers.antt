@@ -1,4 +1,4 @@
-use Rattle.std.proofs.Common.{◌≡◌, ap, ℕ, ◌<◌, length, arith}
+use Rattle.std.proofs.Common.{ℕ, arith}
 use Rattle.std.specs.Prelude.{◌↔◌}
 use Rattle.flow_graph.specs.Graph.{Joins}
 use Rattle.flow_graph.specs.Search.{Reaches}
