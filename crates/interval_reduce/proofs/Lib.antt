@@ -1,3 +1,9 @@
+pub mod Choosing
+pub mod Growing
+pub mod Carrying
+pub mod Alike
+pub mod Shrinking
+pub mod Descending
 pub mod ReductionLists
 pub mod ReductionWalks
 pub mod Dominance
@@ -10,3 +16,4 @@ pub mod Order
 pub mod ReductionGraph
 pub mod ReductionShape
 pub mod ReductionOnce
+pub mod Discovery

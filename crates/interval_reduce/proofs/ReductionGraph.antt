@@ -72,7 +72,7 @@ module _ (E : ℕ → ℕ → Type 0) where
           )
 
 -- the reached lines of a well formed graph
-good_lines : (g : FlowGraph) → IsWellFormed g → Good (length g.nodes) (IsReached g.arcs) (Onward (Joins g.arcs))
+pub good_lines : (g : FlowGraph) → IsWellFormed g → Good (length g.nodes) (IsReached g.arcs) (Onward (Joins g.arcs))
 good_lines g f = record {
   first = ([], refl);
   reached = λ v r. (r.0, onward (Joins g.arcs) 0 r.0 v ([], refl) r.1);

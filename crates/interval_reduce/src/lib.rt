@@ -3,8 +3,17 @@
 //! one node exactly where no cycle can be entered first at two nodes.
 #![tactic(auto)]
 
+mod arcs;
+mod choice;
+mod derivation;
+mod growth;
 mod interval;
 mod laws;
+mod levels;
 
+pub use derivation::derive;
 pub use interval::{Derivation, Interval};
 pub use laws::{levels_tell_shape, one_derivation, reduction_theorem};
+
+#[cfg(test)]
+mod tests;
