@@ -52,7 +52,7 @@ fn report_over(
 }
 
 /// The one answer of a plan with one target.
-fn only(answers: &[Option<usize>]) -> Option<usize>
+pub(crate) fn only(answers: &[Option<usize>]) -> Option<usize>
     requires { length answers.now ≡ 1 }
     ensures { answers.now ≡ result ∷ [] }
 {
