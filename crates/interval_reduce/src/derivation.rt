@@ -66,7 +66,8 @@ fn order_of(alloc: Global, last: usize, levels: &[List<Interval>]) -> Result<Lis
 /// is empty. The only error is `NoMemory`.
 ///
 /// Intervals are those of Allen and Cocke, A program data flow analysis procedure, 1976; that the nodes are taken in
-/// their order makes the answer unique. Each level takes time at most quadratic in its nodes and arcs.
+/// their order makes the answer unique. A level takes time linear in the lines and arcs, and for each node that it takes
+/// time linear in the nodes outside to which arcs lead from intervals: quadratic at most.
 pub fn derive(alloc: Global, graph: &FlowGraph, control: &Control) -> Result<Derivation, NoMemory>
     requires formed { IsWellFormed graph.now }
     requires control { IsControlOf graph.now control.now }
