@@ -12,3 +12,4 @@ pub mod Leasts
 pub mod Listing
 pub mod Rows
 pub mod PairsOfPaths
+pub mod Literals

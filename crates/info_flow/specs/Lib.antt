@@ -2,3 +2,4 @@ pub mod Relevance
 pub mod Agreement
 pub mod Sources
 pub mod Growth
+pub mod Sample

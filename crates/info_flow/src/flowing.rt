@@ -83,15 +83,39 @@ fn row_of_place(
     })
 }
 
+/// The rows of the variables, in the order of the places.
+pub fn flow_rows(
+    alloc: Global,
+    graph: &FlowGraph,
+    places: &[Place],
+) -> Result<List<FlowRow>, NoMemory>
+    requires formed { IsWellFormed graph.now }
+    requires places { HasPlaces graph.now places.now }
+    ensures { IfOk result (AreFlows graph.now places.now) }
+{
+    let rows = successors(alloc, graph)?;
+    let reached = reachable(alloc, graph)?;
+    let mut flows = List::new(alloc);
+    for (number, place) in places.iter().enumerate() {
+        if !place.old {
+            flows.push(row_of_place(alloc, graph, rows.as_slice(), reached.as_slice(), number)?)?;
+        }
+    }
+    Ok(flows)
+}
+
 /// For each variable, in the order of the places, what its final value rests on: the places whose initial values decide
 /// it, and the reachable tests that decide it, both ascending. There are at most 64 places, which are those that the
 /// graph reads, assigns and hands back, and `order` has each reachable line but the first and the last exactly once. The
 /// only error is `NoMemory`.
 ///
-/// The sets of relevant lines and needed places are the least closed ones, found by passes over the lines from the last
-/// to the first (Bergeretti and Carré, Information-flow and data-flow analysis of while-programs, 1985, define such
-/// relations for structured programs), between which `two_paths` is asked about the tests that are not yet relevant.
-/// A round takes time linear in the graph for each such test; there are at most as many rounds as tests.
+/// The sources are the places that line 0 needs, and the tests the relevant ones, of the least sets of relevant lines and
+/// needed places (after Bergeretti and Carré, Information-flow and data-flow analysis of while-programs, 1985). In each
+/// checked procedure with this graph and these places, two runs that end, and whose initial states agree on a row's
+/// sources, end with equal values of its variable.
+///
+/// The sets are found by passes over the graph; the order is not used. A round of a variable takes time linear in the
+/// graph for each test that is not yet relevant to it, and each round but the last finds a relevant test.
 pub fn flows(
     alloc: Global,
     graph: &FlowGraph,
@@ -104,13 +128,5 @@ pub fn flows(
     ensures flows { IfOk result (AreFlows graph.now places.now) }
     ensures agree { IfOk result (HaveEqualValues graph.now places.now) }
 {
-    let rows = successors(alloc, graph)?;
-    let reached = reachable(alloc, graph)?;
-    let mut flows = List::new(alloc);
-    for (number, place) in places.iter().enumerate() {
-        if !place.old {
-            flows.push(row_of_place(alloc, graph, rows.as_slice(), reached.as_slice(), number)?)?;
-        }
-    }
-    Ok(flows)
+    flow_rows(alloc, graph, places)
 }

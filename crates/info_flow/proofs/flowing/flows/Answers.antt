@@ -1,22 +1,9 @@
-use Rattle.std.proofs.Common.{sym, ap, ◌∙◌}
-use Rattle.il_core.specs.declared.line.Place.{Place}
-use Rattle.info_flow.proofs.Rows.{flows_push, flows_skip, rows_agree}
+use Rattle.std.proofs.lemmas.Result.{IfOk-weaker}
+use Rattle.info_flow.specs.Sources.{AreFlows, HaveEqualValues}
+use Rattle.info_flow.proofs.Rows.{rows_agree}
 use Rattle.info_flow.proofs.flowing.flows.Goals as goal
-use Rattle.info_flow.proofs.flowing.flows.Goals.{then-not-place+in_ok-row_of_place+in_ok-push, else-not-place}
-
-pub loop-number-preserved : goal.loop-number-preserved
-loop-number-preserved c =
-    let here = ap (λ (p : Place). p.old) (sym c.index-places-number.is) in
-    elim c.if-not-place.branch [
-      | then-not-place+in_ok-row_of_place+in_ok-push w ↦
-          rw (w.flows-is, w.in_ok-push.ensures.ok)
-          (flows_push c.args.graph.now c.args.places.now c.loop-number.number c.index-places-number.result c.loop-number.flows w.in_ok-row_of_place.field-0
-          c.loop-number-test.true (here ∙ w.if-not-place.true) w.in_ok-row_of_place.ensures.place w.in_ok-row_of_place.ensures.sources c.loop-number.invariant)
-      | else-not-place w ↦
-          rw w.flows-is
-          (flows_skip c.args.graph.now c.args.places.now c.loop-number.number c.index-places-number.result c.loop-number.flows c.loop-number-test.true
-          (here ∙ w.if-not-place.false) c.loop-number.invariant)
-    ]
 
 pub returns-clause-agree : goal.returns-clause-agree
-returns-clause-agree c = rows_agree c.args.graph.now c.args.places.now c.loop-number.flows c.loop-number.invariant.each
+returns-clause-agree c =
+    IfOk-weaker c.flow_rows.result (AreFlows c.args.graph.now c.args.places.now) (HaveEqualValues c.args.graph.now c.args.places.now)
+    (λ rows f. rows_agree c.args.graph.now c.args.places.now rows f.each) c.flow_rows.ensures
