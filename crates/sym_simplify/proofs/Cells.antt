@@ -1,5 +1,5 @@
 -- The normal terms of a table: each is made from its cell, and stands wherever the table is kept.
-use Rattle.std.proofs.Common.{◌≡◌, ◌∙◌, refl, sym, ap, ℕ, pos, ◌<◌, ◌≤◌, Bool, true, false, cond, Some, List, [], ◌∷◌, ◌++◌, length, slice_get, inl, inr, zero-add, arith}
+use Rattle.std.proofs.Common.{◌≡◌, ◌∙◌, refl, sym, ap, ℕ, pos, ◌<◌, ◌≤◌, Bool, true, false, cond, Some, List, [], ◌∷◌, ◌++◌, length, slice_get, inl, inr, zero-add, arith, ◌+◌, max}
 use Rattle.std.specs.List.{IsDistinct, list_any}
 use Rattle.indexmap.specs.IndexSet.{insert_key}
 use Rattle.sym_simplify.specs.declared.node.FormId.{FormId}
@@ -92,3 +92,17 @@ table_more ns new n table h e d = record {
 
 -- what a call on a table that grows asks for
 pub ruleset keeping = (form_kept, keeps_trans, keeps_self, keeps_le)
+
+-- how far up an atom's sides are
+abbrev pub reach : FormAtom → ℕ
+reach (Var p) = 0
+reach (Mul a b) = max a.index b.index + 1
+reach (Div a b) = max a.index b.index + 1
+reach (Mod a b) = max a.index b.index + 1
+
+-- an atom with sides below a position reaches no further than that
+pub reach_below : (k : ℕ) (a : FormAtom) → HasSidesBelow k a → reach a ≤ k
+reach_below k (Var p) h = omega arith
+reach_below k (Mul a b) h = omega (arith, h.0, h.1)
+reach_below k (Div a b) h = omega (arith, h.0, h.1)
+reach_below k (Mod a b) h = omega (arith, h.0, h.1)

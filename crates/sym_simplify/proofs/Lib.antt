@@ -9,3 +9,4 @@ pub mod Exact
 pub mod Cells
 pub mod SameForms
 pub mod Tests
+pub mod OpenParts

@@ -4,4 +4,5 @@ pub mod Norm
 pub mod Normal
 pub mod Merge
 pub mod Table
+pub mod Open
 pub mod Laws

@@ -3,9 +3,12 @@
 //! its term's value and that the term's weight bounds its numbers; the calls that make normal terms are to come.
 #![tactic(auto)]
 
+mod comparing;
 mod laws;
 mod node;
+
 mod normal;
+mod opening;
 mod table;
 
 pub use laws::{
@@ -14,4 +17,5 @@ pub use laws::{
 };
 pub use node::{FormAtom, FormId, FormNode, FormPart};
 pub use normal::{Atom, Kept, LinearPart, LinearTerm, LitForm, Normal, Part};
+pub use opening::OpenForm;
 pub use table::FormTable;
