@@ -60,7 +60,7 @@ reach-scaled c (alone d ∷ xs) = rw (unsigned_abs-mul c d, reach-scaled c xs) (
 reach-scaled c (often d a ∷ xs) = rw (unsigned_abs-mul c d, reach-scaled c xs) (omega arith)
 
 -- every weight is at least 1
-weight-positive : (t : Tree) → 1 ≤ weight t
+pub weight-positive : (t : Tree) → 1 ≤ weight t
 weight-positive (number c) = omega arith
 weight-positive (variable p) = omega arith
 weight-positive (sum x y) = omega (arith, weight-positive x)
@@ -103,7 +103,7 @@ division-reach k bound (constant c) (constant d) v w h l p q = omega (arith, bou
 division-reach k bound (constant c) (part d b n) v w h l p q = omega arith
 division-reach k bound (part c a m) n v w h l p q = omega arith
 
-le-trans : (a b c : ℕ) → a ≤ b → b ≤ c → a ≤ c
+pub le-trans : (a b c : ℕ) → a ≤ b → b ≤ c → a ≤ c
 le-trans a b c h k = omega arith
 
 -- the summands of a term reach no further than its weight

@@ -10,3 +10,4 @@ pub mod Cells
 pub mod SameForms
 pub mod Tests
 pub mod OpenParts
+pub mod Norms

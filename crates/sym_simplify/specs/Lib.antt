@@ -3,6 +3,7 @@ pub mod Order
 pub mod Norm
 pub mod Normal
 pub mod Merge
+pub mod Arithmetic
 pub mod Table
 pub mod Open
 pub mod Laws

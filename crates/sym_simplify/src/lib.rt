@@ -3,6 +3,7 @@
 //! its term's value and that the term's weight bounds its numbers; the calls that make normal terms are to come.
 #![tactic(auto)]
 
+mod arithmetic;
 mod comparing;
 mod laws;
 mod node;

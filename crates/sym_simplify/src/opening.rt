@@ -1,5 +1,9 @@
 //! Normal terms with their parts at hand, and what is made of them.
 
+ghost use Rattle.std.specs.Prelude.{◌≡◌, ◌<◌, ◌+◌, ◌*◌, ◌^◌, ◌≤◌, ◌++◌, [], ◌∷◌, Some, length, drop, slice_get, unsigned_abs, ◌+ℤ◌, ◌*ℤ◌, pos, OnOk, if◌then◌else◌};
+ghost use Rattle.std.specs.Ordering.{int_eq};
+ghost use Rattle.sym_simplify.specs.Open.{with_coefficient};
+
 use crate::{FormAtom, FormId, FormNode, FormPart, FormTable};
 use il_core::NoMemory;
 use std::alloc::Global;
@@ -44,6 +48,7 @@ impl FormTable {
     }
 
     /// The number of a normal term. Cells that are new are added at the end, also before `NoMemory`.
+    #[tactic(auto, using(crate::proofs::OpenParts::closing_start, crate::proofs::OpenParts::closing_step, crate::proofs::OpenParts::sides_now))]
     pub fn closed(&mut self, form: &OpenForm) -> Result<FormId, NoMemory>
         requires { ArePartsWithin self.old form.now.parts.items }
         ensures within { IfOk result (λ id. id.index < length self.new) }
@@ -54,7 +59,7 @@ impl FormTable {
         let mut left = form.parts.len();
         while left > 0 {
             left -= 1;
-            id = self.put(FormNode::More(form.parts[left], id))?;
+            id = self.put(FormNode::More(part_at(&form.parts, left), id))?;
         }
         Ok(id)
     }
@@ -67,7 +72,6 @@ impl FormTable {
         ensures form { IfOk result (λ f. open_form self.now f ≡ merge (open_form self.now left.now) (open_form self.now right.now)) }
         ensures within { IfOk result (λ f. ArePartsWithin self.now f.parts.items) }
     {
-        let constant = added(left.constant, right.constant);
         let mut parts = Vec::new(self.allocator());
         let mut i = 0;
         let mut j = 0;
@@ -80,7 +84,7 @@ impl FormTable {
                     i += 1;
                 }
                 Ordering::Equal => {
-                    push_sum(&mut parts, part.coefficient, other)?;
+                    push_sum(&mut parts, part, other)?;
                     i += 1;
                     j += 1;
                 }
@@ -92,10 +96,11 @@ impl FormTable {
         }
         append_from(&mut parts, &left.parts, i)?;
         append_from(&mut parts, &right.parts, j)?;
-        Ok(OpenForm { constant, parts })
+        Ok(with_sum(left, right, parts))
     }
 
     /// A normal term with each number multiplied.
+    #[tactic(auto, using(crate::proofs::OpenParts::within_none))]
     pub fn multiplied(&self, factor: i128, form: &OpenForm) -> Result<OpenForm, NoMemory>
         requires within { ArePartsWithin self.now form.now.parts.items }
         requires small { unsigned_abs factor * heft (open_form self.now form.now) < 2 ^ 100 }
@@ -106,14 +111,14 @@ impl FormTable {
         if factor == 0 {
             return Ok(OpenForm { constant: 0, parts });
         }
-        let constant = times(factor, form.constant);
         for part in &form.parts {
             parts.push(times_part(factor, *part))?;
         }
-        Ok(OpenForm { constant, parts })
+        Ok(with_multiple(factor, form, parts))
     }
 
     /// The normal term that has one atom, once.
+    #[tactic(auto, using(crate::proofs::OpenParts::within_push, crate::proofs::OpenParts::within_none))]
     pub fn single(&self, atom: FormAtom) -> Result<OpenForm, NoMemory>
         requires { HasSidesBelow (length self.now) atom }
         ensures form { IfOk result (λ f. open_form self.now f ≡ part (pos 1) (factor_at self.now atom) (constant (pos 0))) }
@@ -128,22 +133,28 @@ impl FormTable {
     }
 }
 
-ghost use Rattle.std.specs.Prelude.{◌≡◌, ◌<◌, ◌+◌, ◌*◌, ◌^◌, ◌++◌, [], ◌∷◌, Some, length, drop, slice_get, unsigned_abs, ◌+ℤ◌, ◌*ℤ◌, pos, OnOk, if◌then◌else◌};
-ghost use Rattle.std.specs.Ordering.{int_eq};
-ghost use Rattle.sym_simplify.specs.Open.{with_coefficient};
-
-fn added(left: i128, right: i128) -> i128
-    requires { unsigned_abs left + unsigned_abs right < 2 ^ 100 }
-    ensures { result ≡ left +ℤ right }
+/// The parts with the sum of the constants.
+fn with_sum(left: &OpenForm, right: &OpenForm, parts: Vec<FormPart>) -> OpenForm
+    requires { unsigned_abs left.now.constant + unsigned_abs right.now.constant < 2 ^ 100 }
+    ensures constant { result.constant ≡ left.now.constant +ℤ right.now.constant }
+    ensures parts { result.parts.items ≡ parts.items }
 {
-    left + right
+    OpenForm {
+        constant: left.constant + right.constant,
+        parts,
+    }
 }
 
-fn times(left: i128, right: i128) -> i128
-    requires { unsigned_abs left * unsigned_abs right < 2 ^ 100 }
-    ensures { result ≡ left *ℤ right }
+/// The parts with the constant multiplied.
+fn with_multiple(factor: i128, form: &OpenForm, parts: Vec<FormPart>) -> OpenForm
+    requires { unsigned_abs factor * unsigned_abs form.now.constant < 2 ^ 100 }
+    ensures constant { result.constant ≡ factor *ℤ form.now.constant }
+    ensures parts { result.parts.items ≡ parts.items }
 {
-    left * right
+    OpenForm {
+        constant: factor * form.constant,
+        parts,
+    }
 }
 
 fn times_part(factor: i128, part: FormPart) -> FormPart
@@ -151,7 +162,7 @@ fn times_part(factor: i128, part: FormPart) -> FormPart
     ensures { result ≡ with_coefficient (factor *ℤ part.coefficient) part }
 {
     FormPart {
-        coefficient: times(factor, part.coefficient),
+        coefficient: factor * part.coefficient,
         atom: part.atom,
     }
 }
@@ -163,16 +174,16 @@ fn part_at(parts: &[FormPart], at: usize) -> FormPart
     parts[at]
 }
 
-/// Adds a part whose coefficient is the sum, unless that is 0.
-fn push_sum(parts: &mut Vec<FormPart>, coefficient: i128, part: FormPart) -> Result<(), NoMemory>
-    requires { unsigned_abs coefficient + unsigned_abs part.coefficient < 2 ^ 100 }
-    ensures { OnOk result (parts.new.items ≡ (if int_eq (coefficient +ℤ part.coefficient) (pos 0) then parts.old.items else parts.old.items ++ with_coefficient (coefficient +ℤ part.coefficient) part ∷ [])) }
+/// Adds the second part with the sum of both coefficients, unless that is 0.
+fn push_sum(parts: &mut Vec<FormPart>, part: FormPart, other: FormPart) -> Result<(), NoMemory>
+    requires { unsigned_abs part.coefficient + unsigned_abs other.coefficient < 2 ^ 100 }
+    ensures { OnOk result (parts.new.items ≡ (if int_eq (part.coefficient +ℤ other.coefficient) (pos 0) then parts.old.items else parts.old.items ++ with_coefficient (part.coefficient +ℤ other.coefficient) other ∷ [])) }
 {
-    let sum = added(coefficient, part.coefficient);
-    if sum != 0 {
+    let coefficient = part.coefficient + other.coefficient;
+    if coefficient != 0 {
         parts.push(FormPart {
-            coefficient: sum,
-            atom: part.atom,
+            coefficient,
+            atom: other.atom,
         })?;
     }
     Ok(())
