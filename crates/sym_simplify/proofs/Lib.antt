@@ -11,3 +11,5 @@ pub mod SameForms
 pub mod Tests
 pub mod OpenParts
 pub mod Norms
+pub mod Remembered
+pub mod HeldParts

@@ -66,3 +66,25 @@ pub number_small : (m n : Form) (c d : ℤ) (k : ℕ) → heft m * heft n < k �
 number_small m n c d k h e f =
     let l : heft m * unsigned_abs c < k = rw e at h in
     rw (f, mul_comm (unsigned_abs c) (heft m)) l
+
+-- the sides of a term that weighs less than a bound
+pub sum_bound : (t x y : Tree) (m n : Form) (k : ℕ) → t ≡ sum x y → weight t < k → m ≡ norm x → n ≡ norm y → heft m + heft n < k
+sum_bound t x y m n k e h f g = rw (f, g) (sum_small x y k (rw e at h))
+
+pub product_bound : (t x y : Tree) (m n : Form) (k : ℕ) → t ≡ product x y → weight t < k → m ≡ norm x → n ≡ norm y → heft m * heft n < k
+product_bound t x y m n k e h f g = rw (f, g) (product_small x y k (rw e at h))
+
+pub left_bound : (t x y : Tree) (k : ℕ) → t ≡ product x y → weight t < k → weight x < k
+left_bound t x y k e h = product_left x y k (rw e at h)
+
+pub right_bound : (t x y : Tree) (k : ℕ) → t ≡ product x y → weight t < k → weight y < k
+right_bound t x y k e h = product_right x y k (rw e at h)
+
+pub norm_bound : (x : Tree) (m : Form) (k : ℕ) → m ≡ norm x → weight x < k → heft m < k
+norm_bound x m k e h = rw e (omega (arith, norm_heft x))
+
+pub dividend_bound : (t x y : Tree) (m : Form) (k : ℕ) → t ≡ quotient x y → weight t < k → m ≡ norm x → heft m < k
+dividend_bound t x y m k e h f = let l : weight (quotient x y) < k = rw e at h in norm_bound x m k f (omega (arith, l))
+
+pub dividend_bound_of_rest : (t x y : Tree) (m : Form) (k : ℕ) → t ≡ remainder x y → weight t < k → m ≡ norm x → heft m < k
+dividend_bound_of_rest t x y m k e h f = let l : weight (remainder x y) < k = rw e at h in norm_bound x m k f (omega (arith, l))

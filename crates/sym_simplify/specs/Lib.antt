@@ -6,4 +6,6 @@ pub mod Merge
 pub mod Arithmetic
 pub mod Table
 pub mod Open
+pub mod Held
+pub mod Known
 pub mod Laws

@@ -9,6 +9,7 @@ mod laws;
 mod node;
 
 mod normal;
+mod norming;
 mod opening;
 mod table;
 

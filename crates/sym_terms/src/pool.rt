@@ -67,7 +67,7 @@ impl Pool {
 
     /// The node of a number below the length.
     #[tactic(auto, using(crate::proofs::Terms::term_of_node))]
-    pub(crate) fn node(&self, id: TermId) -> TermNode
+    pub fn node(&self, id: TermId) -> TermNode
         requires { id.index < length self.now }
         ensures node { slice_get self.now id.index ≡ Some result }
         ensures term { tree_at self.now id ≡ node_term self.now result }
