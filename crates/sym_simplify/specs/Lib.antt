@@ -7,5 +7,6 @@ pub mod Arithmetic
 pub mod Table
 pub mod Open
 pub mod Held
+pub mod Store
 pub mod Known
 pub mod Laws

@@ -5,14 +5,17 @@
 
 mod arithmetic;
 mod comparing;
+mod forms;
 mod laws;
 mod node;
 
 mod normal;
 mod norming;
 mod opening;
+mod reading;
 mod table;
 
+pub use forms::Forms;
 pub use laws::{
     coefficients_are_sums, constants_are_sums, normal_terms_are_normal, normal_terms_are_unique,
     normal_terms_keep_values, orders_are_exact, weights_bound_normal_terms,

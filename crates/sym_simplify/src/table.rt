@@ -85,7 +85,8 @@ impl FormTable {
     pub fn are_same(&self, a: FormId, b: FormId) -> bool
         requires left { a.index < length self.now }
         requires right { b.index < length self.now }
-        ensures { IsTrue result ↔ (form_at self.now a ≡ form_at self.now b) }
+        ensures same { IsTrue result ↔ (form_at self.now a ≡ form_at self.now b) }
+        ensures equal { IsTrue result ↔ (a ≡ b) }
     {
         let _first = self.node(a);
         a == b

@@ -1,0 +1,128 @@
+use crate::norming::norm_in;
+use crate::reading::normal_at;
+use crate::{FormId, FormTable, Normal};
+use il_core::NoMemory;
+use std::alloc::Global;
+use std::collections::{HashMap, HashSet};
+use std::marker::Model;
+use sym_terms::{Pool, Term, TermId};
+
+/// Terms and their normal terms, each kept once and named by its number (hash consing). Each normal term is found
+/// once. Equal normal terms have equal numbers.
+#[derive(Debug, Drop)]
+pub struct Forms {
+    terms: Pool,
+    table: FormTable,
+    known: HashMap<usize, FormId>,
+    seen: HashSet<usize>,
+    alloc: Global,
+}
+
+impl Model for Forms {
+    ghost use Rattle.sym_simplify.specs.Store.{Store};
+    ghost use Rattle.sym_simplify.specs.Known.{IsKnown};
+
+    ghost Value = { Store };
+
+    ghost view = { λ f. record { terms = f.terms; forms = f.table } };
+
+    ghost invariant = { λ f. IsKnown f.terms f.table f.known };
+}
+
+impl Forms {
+    ghost use Rattle.std.specs.Prelude.{◌≡◌, ◌<◌, ◌≤◌, ◌^◌, ◌↔◌, [], length, IfOk, IsTrue};
+    ghost use Rattle.sym_terms.specs.Tree.{tree_of};
+    ghost use Rattle.sym_terms.specs.Substitution.{substituted, HasPlacesBelow};
+    ghost use Rattle.sym_terms.specs.Measure.{weight, depth};
+    ghost use Rattle.sym_terms.specs.Grown.{Keeps};
+    ghost use Rattle.sym_terms.specs.Nodes.{tree_at, terms_of, AreWithin};
+    ghost use Rattle.sym_simplify.specs.Norm.{norm};
+    ghost use Rattle.sym_simplify.specs.Table.{form_at};
+    ghost use Rattle.sym_simplify.specs.Held.{form_of};
+
+    /// No terms and no normal terms.
+    #[tactic(auto, using(crate::proofs::Remembered::known_none))]
+    pub fn new(alloc: Global) -> Result<Forms, NoMemory>
+        ensures terms { IfOk result (λ f. f.terms ≡ []) }
+        ensures forms { IfOk result (λ f. f.forms ≡ []) }
+    {
+        Ok(Forms {
+            terms: Pool::new(alloc)?,
+            table: FormTable::new(alloc),
+            known: HashMap::new(alloc),
+            seen: HashSet::new(alloc),
+            alloc,
+        })
+    }
+
+    /// The terms.
+    pub fn terms(&self) -> &Pool
+        ensures { result.now ≡ self.now.terms }
+    {
+        &self.terms
+    }
+
+    /// The number of this term. Nodes that are new are added at the end, also before `NoMemory`.
+    #[tactic(auto, using(crate::proofs::Remembered::known_later))]
+    pub fn put_term(&mut self, term: &Term) -> Result<TermId, NoMemory>
+        ensures within { IfOk result (λ id. id.index < length self.new.terms) }
+        ensures term { IfOk result (λ id. tree_at self.new.terms id ≡ tree_of term.now) }
+        ensures kept { Keeps self.old.terms self.new.terms }
+        ensures forms { self.new.forms ≡ self.old.forms }
+    {
+        self.terms.put_term(term)
+    }
+
+    /// The number of the term of `id` in which each place is replaced by the term of its number in `env`. Nodes that are
+    /// new are added at the end, also before `NoMemory`.
+    #[tactic(auto, using(crate::proofs::Remembered::known_later))]
+    pub fn subst(&mut self, id: TermId, env: &[TermId]) -> Result<TermId, NoMemory>
+        requires id { id.index < length self.old.terms }
+        requires env { AreWithin self.old.terms env.now }
+        requires places { HasPlacesBelow (length env.now) (tree_at self.old.terms id) }
+        ensures within { IfOk result (λ r. r.index < length self.new.terms) }
+        ensures term { IfOk result (λ r. tree_at self.new.terms r ≡ substituted (terms_of self.old.terms env.now) (tree_at self.old.terms id)) }
+        ensures kept { Keeps self.old.terms self.new.terms }
+        ensures forms { self.new.forms ≡ self.old.forms }
+    {
+        self.terms.subst(id, env)
+    }
+
+    /// The number of the normal term of a term. Earlier numbers keep their terms and normal terms, also after
+    /// `NoMemory`. The stack holds as many calls as the term is deep.
+    pub fn norm(&mut self, id: TermId) -> Result<FormId, NoMemory>
+        requires id { id.index < length self.old.terms }
+        requires weight { weight (tree_at self.old.terms id) < 2 ^ 100 }
+        requires depth { depth (tree_at self.old.terms id) ≤ 1000 }
+        ensures within { IfOk result (λ f. f.index < length self.new.forms) }
+        ensures form { IfOk result (λ f. form_at self.new.forms f ≡ norm (tree_at self.old.terms id)) }
+        ensures terms { self.new.terms ≡ self.old.terms }
+        ensures kept { Keeps self.old.forms self.new.forms }
+    {
+        norm_in(
+            &self.terms,
+            &mut self.table,
+            &mut self.known,
+            &mut self.seen,
+            id,
+        )
+    }
+
+    /// Whether two numbers have the same normal term: they have it exactly where they are equal.
+    pub fn are_same(&self, a: FormId, b: FormId) -> bool
+        requires left { a.index < length self.now.forms }
+        requires right { b.index < length self.now.forms }
+        ensures same { IsTrue result ↔ (form_at self.now.forms a ≡ form_at self.now.forms b) }
+        ensures equal { IsTrue result ↔ (a ≡ b) }
+    {
+        self.table.are_same(a, b)
+    }
+
+    /// The normal term of a number.
+    pub fn read(&self, id: FormId) -> Result<Normal, NoMemory>
+        requires { id.index < length self.now.forms }
+        ensures { IfOk result (λ n. form_of n ≡ form_at self.now.forms id) }
+    {
+        normal_at(self.alloc, &self.table, id)
+    }
+}
