@@ -18,7 +18,7 @@ abs-sum : (a b : ℤ) → unsigned_abs (a +ℤ b) ≤ unsigned_abs a + unsigned_
 abs-sum a b = omega (arith, ints)
 
 -- the absolute values of the numbers of summands together
-abbrev reach : List Summand → ℕ
+abbrev pub reach : List Summand → ℕ
 reach [] = 0
 reach (alone c ∷ more) = unsigned_abs c + reach more
 reach (often c a ∷ more) = unsigned_abs c + reach more
@@ -44,17 +44,17 @@ shift-heft : (c : ℤ) (n : Form) → heft (shift c n) ≤ unsigned_abs c + heft
 shift-heft c (constant d) = abs-sum c d
 shift-heft c (part d b n) = omega (arith, shift-heft c n)
 
-normal-heft : (xs : List Summand) → heft (normal_of xs) ≤ reach xs
+pub normal-heft : (xs : List Summand) → heft (normal_of xs) ≤ reach xs
 normal-heft [] = omega arith
 normal-heft (alone c ∷ xs) = omega (arith, shift-heft c (normal_of xs), normal-heft xs)
 normal-heft (often c a ∷ xs) = omega (arith, insert-heft c a (normal_of xs), normal-heft xs)
 
-reach-append : (xs ys : List Summand) → reach (xs ++ ys) ≡ reach xs + reach ys
+pub reach-append : (xs ys : List Summand) → reach (xs ++ ys) ≡ reach xs + reach ys
 reach-append [] ys = omega arith
 reach-append (alone c ∷ xs) ys = omega (arith, reach-append xs ys)
 reach-append (often c a ∷ xs) ys = omega (arith, reach-append xs ys)
 
-reach-scaled : (c : ℤ) (xs : List Summand) → reach (map (scaled c) xs) ≡ unsigned_abs c * reach xs
+pub reach-scaled : (c : ℤ) (xs : List Summand) → reach (map (scaled c) xs) ≡ unsigned_abs c * reach xs
 reach-scaled c [] = omega arith
 reach-scaled c (alone d ∷ xs) = rw (unsigned_abs-mul c d, reach-scaled c xs) (omega arith)
 reach-scaled c (often d a ∷ xs) = rw (unsigned_abs-mul c d, reach-scaled c xs) (omega arith)
@@ -107,7 +107,7 @@ pub le-trans : (a b c : ℕ) → a ≤ b → b ≤ c → a ≤ c
 le-trans a b c h k = omega arith
 
 -- the summands of a term reach no further than its weight
-summands-reach : (t : Tree) → reach (summands t) ≤ weight t
+pub summands-reach : (t : Tree) → reach (summands t) ≤ weight t
 summands-reach (number c) = omega arith
 summands-reach (variable p) = omega arith
 summands-reach (sum x y) = rw (reach-append (summands x) (summands y)) (omega (arith, summands-reach x, summands-reach y))

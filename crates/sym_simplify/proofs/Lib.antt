@@ -13,3 +13,5 @@ pub mod OpenParts
 pub mod Norms
 pub mod Remembered
 pub mod HeldParts
+pub mod LiteralForms
+pub mod Alone

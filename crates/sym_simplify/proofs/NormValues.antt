@@ -59,7 +59,7 @@ times-less a b x =
     taken u v w e = omega (arith, ints)
 
 -- products group either way
-times-times : (c d x : ℤ) → (c *ℤ d) *ℤ x ≡ c *ℤ (d *ℤ x)
+pub times-times : (c d x : ℤ) → (c *ℤ d) *ℤ x ≡ c *ℤ (d *ℤ x)
 times-times (pos zero) d x = rw (zero-*ℤ d, zero-*ℤ x, zero-*ℤ (d *ℤ x)) refl
 times-times (pos (suc n)) d x =
     ap (λ v. v *ℤ x) (suc_ℤ-*ℤ (pos n) d) ∙ (times-sum (pos n *ℤ d) d x ∙ (ap (λ v. v +ℤ (d *ℤ x)) (times-times (pos n) d x) ∙ sym (suc_ℤ-*ℤ (pos n) (d *ℤ x))))
@@ -70,7 +70,7 @@ times-times (negsuc (suc n)) d x =
     ap (λ v. v *ℤ x) (pred_ℤ-*ℤ (negsuc n) d) ∙ (times-less (negsuc n *ℤ d) d x ∙ (ap (λ v. v -ℤ (d *ℤ x)) (times-times (negsuc n) d x) ∙ sym (pred_ℤ-*ℤ (negsuc n) (d *ℤ x))))
 
 -- the sum of the values of summands
-abbrev total : List Summand → State → ℤ
+abbrev pub total : List Summand → State → ℤ
 total [] s = pos 0
 total (alone c ∷ more) s = c +ℤ total more s
 total (often c a ∷ more) s = (c *ℤ factor_value a s) +ℤ total more s
@@ -106,18 +106,18 @@ shift-value : (c : ℤ) (n : Form) (s : State) → form_value (shift c n) s ≡ 
 shift-value c (constant d) s = refl
 shift-value c (part d b n) s = ap (λ v. (d *ℤ factor_value b s) +ℤ v) (shift-value c n s) ∙ add-past c (d *ℤ factor_value b s) (form_value n s)
 
-normal-value : (xs : List Summand) (s : State) → form_value (normal_of xs) s ≡ total xs s
+pub normal-value : (xs : List Summand) (s : State) → form_value (normal_of xs) s ≡ total xs s
 normal-value [] s = refl
 normal-value (alone c ∷ xs) s = shift-value c (normal_of xs) s ∙ ap (λ v. c +ℤ v) (normal-value xs s)
 normal-value (often c a ∷ xs) s = insert-value c a (normal_of xs) s ∙ ap (λ v. (c *ℤ factor_value a s) +ℤ v) (normal-value xs s)
 
-total-append : (xs ys : List Summand) (s : State) → total (xs ++ ys) s ≡ total xs s +ℤ total ys s
+pub total-append : (xs ys : List Summand) (s : State) → total (xs ++ ys) s ≡ total xs s +ℤ total ys s
 total-append [] ys s = sym (+ℤ_idl (total ys s))
 total-append (alone c ∷ xs) ys s = ap (λ v. c +ℤ v) (total-append xs ys s) ∙ sym (add-assoc c (total xs s) (total ys s))
 total-append (often c a ∷ xs) ys s =
     ap (λ v. (c *ℤ factor_value a s) +ℤ v) (total-append xs ys s) ∙ sym (add-assoc (c *ℤ factor_value a s) (total xs s) (total ys s))
 
-total-scaled : (c : ℤ) (xs : List Summand) (s : State) → total (map (scaled c) xs) s ≡ c *ℤ total xs s
+pub total-scaled : (c : ℤ) (xs : List Summand) (s : State) → total (map (scaled c) xs) s ≡ c *ℤ total xs s
 total-scaled c [] s = sym (*ℤ-zero c)
 total-scaled c (alone d ∷ xs) s = ap (λ v. (c *ℤ d) +ℤ v) (total-scaled c xs s) ∙ sym (sum-times c d (total xs s))
 total-scaled c (often d a ∷ xs) s =
@@ -147,7 +147,7 @@ division-value k (constant c) (part d b n) s = once (pair k (constant c) (part d
 division-value k (part c a m) n s = once (pair k (part c a m) n) s
 
 -- the summands of a term add up to its value
-summands-value : (t : Tree) (s : State) → total (summands t) s ≡ value_of t s
+pub summands-value : (t : Tree) (s : State) → total (summands t) s ≡ value_of t s
 summands-value (number c) s = +ℤ_idr c
 summands-value (variable p) s = once (place p) s
 summands-value (sum x y) s = total-append (summands x) (summands y) s ∙ rw (summands-value x s, summands-value y s) refl

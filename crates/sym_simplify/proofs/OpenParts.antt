@@ -254,3 +254,12 @@ pub multiplied_end : (f g : ℤ) (out ps : List FormPart) (i : ℕ) → g ≡ f 
     → out ≡ map (times_coefficient f) ps
 multiplied_end f g out ps i s h e =
     sym (append-nil out) ∙ (ap (λ qs. out ++ map (times_coefficient g) qs) (sym (drop_all i ps h)) ∙ (e ∙ ap (λ k. map (times_coefficient k) ps) s))
+
+-- the constant is below what bounds the normal term
+pub constant_small : (nodes : List FormNode) (ps : List FormPart) (c : ℤ) (k : ℕ) → heft (on_top nodes ps (constant c)) < k → unsigned_abs c < k
+constant_small nodes ps c k h = omega (arith, constant_heft nodes ps c)
+
+-- the parts from a position on, the first one apart
+pub drop_part : (nodes : List FormNode) (ps : List FormPart) (i : ℕ) (p : FormPart) (n : Form) → i < length ps
+    → on_top nodes (drop i ps) n ≡ part (get_or ps i p).coefficient (factor_at nodes (get_or ps i p).atom) (on_top nodes (drop (i + 1) ps) n)
+drop_part nodes ps i p n l = ap (λ qs. on_top nodes qs n) (drop_first ps i (get_or ps i p) (slice_get-get_or ps i p l))

@@ -1,5 +1,5 @@
 -- What is known of normal terms from call to call.
-use Rattle.std.proofs.Common.{◌≡◌, ◌∙◌, refl, sym, ap, ℕ, suc, ◌+◌, ◌*◌, ◌<◌, ◌≤◌, ◌⊎◌, inl, inr, Bool, true, false, cond, Option, Some, List, [], ◌∷◌, length, slice_get, arith, nat_eq}
+use Rattle.std.proofs.Common.{◌≡◌, ◌∙◌, refl, sym, ap, ℕ, suc, ◌+◌, ◌*◌, ◌<◌, ◌≤◌, ◌⊎◌, inl, inr, Bool, true, false, cond, Option, Some, List, [], ◌∷◌, length, slice_get, negsuc, arith, nat_eq}
 use Rattle.std.proofs.lemmas.Bool.Decides.{nat_tests}
 use Rattle.std.proofs.lemmas.Option.{none-some, same_Some}
 use Rattle.std.specs.HashMap.{get}
@@ -13,10 +13,15 @@ use Rattle.sym_simplify.specs.declared.node.FormId.{FormId}
 use Rattle.sym_simplify.specs.declared.node.FormPart.{FormPart}
 use Rattle.sym_simplify.specs.declared.node.FormNode.{FormNode}
 use Rattle.sym_simplify.specs.Form.{Form, part}
-use Rattle.sym_simplify.specs.Norm.{norm}
+use Rattle.sym_terms.specs.Tree.{Tree}
+use Rattle.sym_terms.specs.Measure.{weight}
+use Rattle.sym_simplify.specs.Norm.{norm, heft}
+use Rattle.sym_simplify.specs.Merge.{merge, scale}
+use Rattle.sym_simplify.specs.Literal.{difference}
 use Rattle.sym_simplify.specs.Table.{HasSidesBelow, form_at, factor_at, on_top, ArePartsWithin}
 use Rattle.sym_simplify.specs.Known.{Known, IsKnown}
 use Rattle.sym_simplify.proofs.Cells.{form_kept, atom_kept, sides_further}
+use Rattle.sym_simplify.proofs.LiteralForms.{difference_merged, difference_heft}
 use Rattle.sym_simplify.proofs.Norms.{norm_number, norm_variable, norm_sum, norm_product, norm_quotient, norm_remainder, sum_small, product_small, product_left, product_right}
 
 -- nothing known is known rightly
@@ -84,3 +89,15 @@ open_kept old new ps n k w = go ps (λ i p e. w.each i p e)
     go (q ∷ qs) g = rw (atom_kept old new q.atom k (g 0 q refl), go qs (λ i p e. g (suc i) p e)) refl
 
 pub ruleset norming = (keeps_trans, keeps_self, keeps_le, form_kept, known_kept, parts_kept, open_kept, norm_number, norm_variable, norm_sum, norm_product, norm_quotient, norm_remainder, sum_small, product_small, product_left, product_right)
+
+-- the sides of a comparison together stay below what bounds their weights
+pub sides_bound : (x y : Tree) (m n : Form) (k : ℕ) → weight x + weight y < k → m ≡ norm x → n ≡ norm y → heft m + heft n < k
+sides_bound x y m n k h f g = rw (f, g) (sum_small x y k h)
+
+pub difference_form : (x y : Tree) (m n v : Form) → v ≡ merge m (scale (negsuc 0) n) → m ≡ norm x → n ≡ norm y → v ≡ difference x y
+difference_form x y m n v e f g = e ∙ (rw (f, g) refl ∙ sym (difference_merged x y))
+
+pub difference_small : (x y : Tree) (v : Form) (k : ℕ) → weight x + weight y < k → v ≡ difference x y → heft v < k
+difference_small x y v k h e = rw e (omega (arith, difference_heft x y))
+
+pub ruleset comparing_sides = (keeps_trans, keeps_le, form_kept)

@@ -8,5 +8,7 @@ pub mod Table
 pub mod Open
 pub mod Held
 pub mod Store
+pub mod Literal
+pub mod Linear
 pub mod Known
 pub mod Laws

@@ -1,7 +1,7 @@
-use crate::norming::norm_in;
+use crate::norming::{literal_in, norm_in};
 use crate::reading::normal_at;
-use crate::{FormId, FormTable, Normal};
-use il_core::NoMemory;
+use crate::{FormId, FormTable, LinearTerm, LitForm, Normal};
+use il_core::{NoMemory, Relation};
 use std::alloc::Global;
 use std::collections::{HashMap, HashSet};
 use std::marker::Model;
@@ -30,7 +30,10 @@ impl Model for Forms {
 }
 
 impl Forms {
-    ghost use Rattle.std.specs.Prelude.{◌≡◌, ◌<◌, ◌≤◌, ◌^◌, ◌↔◌, [], length, IfOk, IsTrue};
+    ghost use Rattle.std.specs.Prelude.{◌≡◌, ◌<◌, ◌≤◌, ◌+◌, ◌^◌, ◌↔◌, [], length, IfOk, IsTrue};
+    ghost use Rattle.std.specs.Option.{option_map};
+    ghost use Rattle.il_core.specs.Evaluation.{State, compares};
+    ghost use Rattle.sym_terms.specs.Value.{value_of};
     ghost use Rattle.sym_terms.specs.Tree.{tree_of};
     ghost use Rattle.sym_terms.specs.Substitution.{substituted, HasPlacesBelow};
     ghost use Rattle.sym_terms.specs.Measure.{weight, depth};
@@ -39,6 +42,8 @@ impl Forms {
     ghost use Rattle.sym_simplify.specs.Norm.{norm};
     ghost use Rattle.sym_simplify.specs.Table.{form_at};
     ghost use Rattle.sym_simplify.specs.Held.{form_of};
+    ghost use Rattle.sym_simplify.specs.Literal.{difference, compared, literal_form_of, form_holds};
+    ghost use Rattle.sym_simplify.specs.Linear.{linear_in, linear_of};
 
     /// No terms and no normal terms.
     #[tactic(auto, using(crate::proofs::Remembered::known_none))]
@@ -124,5 +129,38 @@ impl Forms {
         ensures { IfOk result (λ n. form_of n ≡ form_at self.now.forms id) }
     {
         normal_at(self.alloc, &self.table, id)
+    }
+
+    /// The constant and the places of a numbered normal term; `None` exactly where it has another atom.
+    pub fn linear(&self, id: FormId) -> Result<Option<LinearTerm>, NoMemory>
+        requires { id.index < length self.now.forms }
+        ensures { IfOk result (λ o. option_map linear_in o ≡ linear_of (form_at self.now.forms id)) }
+    {
+        self.table.linear(id)
+    }
+
+    /// The form of the literal with these sides, which holds in the same states. Earlier numbers keep their terms and
+    /// normal terms, also after `NoMemory`. The stack holds as many calls as the sides are deep.
+    #[tactic(auto, using(crate::proofs::LiteralForms::literal_value))]
+    pub fn literal(&mut self, relation: Relation, left: TermId, right: TermId) -> Result<LitForm, NoMemory>
+        requires left { left.index < length self.old.terms }
+        requires right { right.index < length self.old.terms }
+        requires weight { weight (tree_at self.old.terms left) + weight (tree_at self.old.terms right) < 2 ^ 100 }
+        requires left_depth { depth (tree_at self.old.terms left) ≤ 1000 }
+        requires right_depth { depth (tree_at self.old.terms right) ≤ 1000 }
+        ensures form { IfOk result (λ f. literal_form_of f ≡ compared relation (difference (tree_at self.old.terms left) (tree_at self.old.terms right))) }
+        ensures value { IfOk result (λ f. (s : State) → form_holds (literal_form_of f) s ≡ compares relation (value_of (tree_at self.old.terms left) s) (value_of (tree_at self.old.terms right) s)) }
+        ensures terms { self.new.terms ≡ self.old.terms }
+        ensures kept { Keeps self.old.forms self.new.forms }
+    {
+        literal_in(
+            &self.terms,
+            &mut self.table,
+            &mut self.known,
+            &mut self.seen,
+            relation,
+            left,
+            right,
+        )
     }
 }

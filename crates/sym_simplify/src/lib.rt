@@ -7,12 +7,15 @@ mod arithmetic;
 mod comparing;
 mod forms;
 mod laws;
+mod linear_terms;
+mod literal;
 mod node;
 
 mod normal;
 mod norming;
 mod opening;
 mod reading;
+mod simplifying;
 mod table;
 
 pub use forms::Forms;
@@ -23,4 +26,5 @@ pub use laws::{
 pub use node::{FormAtom, FormId, FormNode, FormPart};
 pub use normal::{Atom, Kept, LinearPart, LinearTerm, LitForm, Normal, Part};
 pub use opening::OpenForm;
+pub use simplifying::{linear, norm, norm_literal};
 pub use table::FormTable;

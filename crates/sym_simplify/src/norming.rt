@@ -1,17 +1,18 @@
 //! The normal terms of a pool's terms. Each term that is not a sum is worked on once. A sum is worked on without a
 //! number when it is first met, as a side of another sum, so that a long chain of sums numbers no partial ones; when it
 //! is met again it gets a number.
-ghost use Rattle.std.specs.Prelude.{◌≡◌, ◌<◌, ◌^◌, length, IfOk};
+ghost use Rattle.std.specs.Prelude.{◌≡◌, ◌<◌, ◌+◌, ◌^◌, length, IfOk};
 ghost use Rattle.sym_terms.specs.Grown.{Keeps};
 ghost use Rattle.sym_terms.specs.Nodes.{tree_at};
 ghost use Rattle.sym_terms.specs.Measure.{weight};
 ghost use Rattle.sym_simplify.specs.Norm.{norm};
 ghost use Rattle.sym_simplify.specs.Table.{ArePartsWithin, form_at};
 ghost use Rattle.sym_simplify.specs.Open.{open_form};
+ghost use Rattle.sym_simplify.specs.Literal.{difference, compared, literal_form_of};
 ghost use Rattle.sym_simplify.specs.Known.{IsKnown};
 
-use crate::{FormAtom, FormId, FormTable, OpenForm};
-use il_core::NoMemory;
+use crate::{FormAtom, FormId, FormTable, LitForm, OpenForm};
+use il_core::{NoMemory, Relation};
 use std::collections::{HashMap, HashSet};
 use sym_terms::{Pool, TermId, TermNode};
 
@@ -113,4 +114,29 @@ fn side_in(
 
 fn is_sum(node: TermNode) -> bool {
     matches!(node, TermNode::Add(_, _))
+}
+
+/// The form of a literal.
+#[tactic(auto, using(crate::proofs::Remembered::comparing_sides))]
+pub fn literal_in(
+    terms: &Pool,
+    table: &mut FormTable,
+    known: &mut HashMap<usize, FormId>,
+    seen: &mut HashSet<usize>,
+    relation: Relation,
+    left: TermId,
+    right: TermId,
+) -> Result<LitForm, NoMemory>
+    requires left { left.index < length terms.now }
+    requires right { right.index < length terms.now }
+    requires weight { weight (tree_at terms.now left) + weight (tree_at terms.now right) < 2 ^ 100 }
+    requires known { IsKnown terms.now table.old known.old }
+    ensures form { IfOk result (λ f. literal_form_of f ≡ compared relation (difference (tree_at terms.now left) (tree_at terms.now right))) }
+    ensures kept { Keeps table.old table.new }
+    ensures known { IsKnown terms.now table.new known.new }
+{
+    let first = norm_in(terms, table, known, seen, left)?;
+    let second = norm_in(terms, table, known, seen, right)?;
+    let form = table.difference(first, second)?;
+    table.compared(relation, &form)
 }

@@ -1,9 +1,10 @@
 //! Numbered normal terms as values of their own.
-ghost use Rattle.std.specs.Prelude.{◌≡◌, ◌<◌, length, IfOk};
-ghost use Rattle.sym_simplify.specs.Table.{HasSidesBelow, form_at, factor_at};
+ghost use Rattle.std.specs.Prelude.{◌≡◌, ◌<◌, length, pos, IfOk};
+ghost use Rattle.sym_simplify.specs.Form.{constant};
+ghost use Rattle.sym_simplify.specs.Table.{HasSidesBelow, ArePartsWithin, form_at, factor_at, on_top};
 ghost use Rattle.sym_simplify.specs.Held.{form_of, factor_of};
 
-use crate::{Atom, FormAtom, FormId, FormNode, FormTable, Normal, Part};
+use crate::{Atom, FormAtom, FormId, FormNode, FormPart, FormTable, Normal, Part};
 use il_core::{List, NoMemory};
 use std::alloc::Global;
 
@@ -54,4 +55,26 @@ fn atom_at(alloc: Global, table: &FormTable, atom: FormAtom) -> Result<Atom, NoM
             Ok(Atom::Mod(left, right))
         }
     }
+}
+
+/// The normal term of parts alone.
+#[tactic(auto, using(crate::proofs::HeldParts::rolled))]
+pub fn normal_from(
+    alloc: Global,
+    table: &FormTable,
+    parts: &[FormPart],
+) -> Result<Normal, NoMemory>
+    requires { ArePartsWithin table.now parts.now }
+    ensures { IfOk result (λ n. form_of n ≡ on_top table.now parts.now (constant (pos 0))) }
+{
+    let mut read = List::new(alloc);
+    for part in parts {
+        let atom = atom_at(alloc, table, part.atom)?;
+        let coefficient = part.coefficient;
+        read.push(Part { coefficient, atom })?;
+    }
+    Ok(Normal {
+        constant: 0,
+        parts: read,
+    })
 }
