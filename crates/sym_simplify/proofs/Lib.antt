@@ -8,10 +8,11 @@ pub mod Sides
 pub mod Exact
 pub mod Cells
 pub mod SameForms
-pub mod Tests
+pub mod EqualCells
 pub mod OpenParts
 pub mod Norms
 pub mod Remembered
 pub mod HeldParts
 pub mod LiteralForms
 pub mod Alone
+pub mod KeptForms

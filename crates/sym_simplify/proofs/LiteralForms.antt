@@ -23,7 +23,7 @@ use Rattle.sym_simplify.proofs.NormValues.{total, add-assoc, sum-times, times-ti
 use Rattle.sym_simplify.proofs.Hefts.{reach, normal-heft, reach-append, reach-scaled, summands-reach}
 use Rattle.sym_simplify.proofs.Merges.{difference_is}
 
-minus-one : (x : ℤ) → negsuc 0 *ℤ x ≡ pos 0 -ℤ x
+pub minus-one : (x : ℤ) → negsuc 0 *ℤ x ≡ pos 0 -ℤ x
 minus-one x = pred_ℤ-*ℤ (pos 0) x ∙ ap (λ v. v -ℤ x) (zero-*ℤ x)
 
 same-eq : (p k v : ℤ) → p +ℤ k ≡ v → int_eq p (neg_ℤ k) ≡ int_eq v (pos 0)

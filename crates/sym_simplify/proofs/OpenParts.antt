@@ -228,6 +228,7 @@ within_append nodes ps qs i w v = record { each = λ k p e. go ps k p e (λ j q 
     more rs zero k p e g = g k p e
     more [] (suc j) k p e g = absurd (none-some p e)
     more (r ∷ rs) (suc j) k p e g = more rs j k p e (λ l q f. g (suc l) q f)
+
     go : (rs : List FormPart) (k : ℕ) (p : FormPart) → slice_get (rs ++ drop i qs) k ≡ Some p → ((l : ℕ) (q : FormPart) → slice_get rs l ≡ Some q → HasSidesBelow (length nodes) q.atom)
         → HasSidesBelow (length nodes) p.atom
     go [] k p e g = more qs i k p e (λ l q f. v.each l q f)

@@ -11,11 +11,11 @@ use Rattle.sym_simplify.specs.Normal.{IsOrdered, IsNormal, HasNormalSides}
 use Rattle.sym_simplify.proofs.Unique.{ordered_is}
 
 -- the sides of each atom are normal
-abbrev HaveSides : Form → Type 0
+abbrev pub HaveSides : Form → Type 0
 HaveSides (constant c) = Unit {0}
 HaveSides (part c a n) = HasNormalSides a × HaveSides n
 
-abbrev AllSides : List Summand → Type 0
+abbrev pub AllSides : List Summand → Type 0
 AllSides [] = Unit {0}
 AllSides (alone c ∷ more) = AllSides more
 AllSides (often c a ∷ more) = HasNormalSides a × AllSides more
@@ -50,15 +50,15 @@ sides-is [] h = tt
 sides-is (alone c ∷ xs) h = shift-sides c (normal_of xs) (sides-is xs h)
 sides-is (often c a ∷ xs) h = insert-sides c a (normal_of xs) h.0 (sides-is xs h.1)
 
-normal-is : (xs : List Summand) → AllSides xs → IsNormal (normal_of xs)
+pub normal-is : (xs : List Summand) → AllSides xs → IsNormal (normal_of xs)
 normal-is xs h = normal-from (normal_of xs) (ordered_is xs) (sides-is xs h)
 
-append-sides : (xs ys : List Summand) → AllSides xs → AllSides ys → AllSides (xs ++ ys)
+pub append-sides : (xs ys : List Summand) → AllSides xs → AllSides ys → AllSides (xs ++ ys)
 append-sides [] ys h k = k
 append-sides (alone c ∷ xs) ys h k = append-sides xs ys h k
 append-sides (often c a ∷ xs) ys h k = (h.0, append-sides xs ys h.1 k)
 
-scaled-sides : (c : ℤ) (xs : List Summand) → AllSides xs → AllSides (map (scaled c) xs)
+pub scaled-sides : (c : ℤ) (xs : List Summand) → AllSides xs → AllSides (map (scaled c) xs)
 scaled-sides c [] h = tt
 scaled-sides c (alone d ∷ xs) h = scaled-sides c xs h
 scaled-sides c (often d a ∷ xs) h = (h.0, scaled-sides c xs h.1)
@@ -78,7 +78,7 @@ division-sides k (constant c) (constant d) h l = tt
 division-sides k (constant c) (part d b n) h l = ((h, l), tt)
 division-sides k (part c a m) n h l = ((h, l), tt)
 
-summands-sides : (t : Tree) → AllSides (summands t)
+pub summands-sides : (t : Tree) → AllSides (summands t)
 summands-sides (number c) = tt
 summands-sides (variable p) = (tt, tt)
 summands-sides (sum x y) = append-sides (summands x) (summands y) (summands-sides x) (summands-sides y)

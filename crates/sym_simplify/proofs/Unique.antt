@@ -51,8 +51,8 @@ same-parts Equal c a m d b n e h k g go =
     let v : coefficient_of a (part d b n) ≡ coefficient_of b (part d b n) = ap (λ x. coefficient_of x (part d b n)) f in
     let i : c ≡ d = sym (first-coefficient c a m h) ∙ (g a ∙ (v ∙ first-coefficient d b n k)) in
     let P : (x : Factor) → coefficient_of x m ≡ coefficient_of x n = λ x.
-      cancelled (factor_cmp x a) c (coefficient_of x m) (coefficient_of x n)
-      (g x ∙ (ap (λ y. where_equal (factor_cmp x y) d (coefficient_of x n)) (sym f) ∙ ap (λ y. where_equal (factor_cmp x a) y (coefficient_of x n)) (sym i))) in
+    cancelled (factor_cmp x a) c (coefficient_of x m) (coefficient_of x n)
+    (g x ∙ (ap (λ y. where_equal (factor_cmp x y) d (coefficient_of x n)) (sym f) ∙ ap (λ y. where_equal (factor_cmp x a) y (coefficient_of x n)) (sym i))) in
     let j : m ≡ n = go P in
     cc
 same-parts Greater c a m d b n e h k g go = absurd (absent d b n (part c a m) (factor_self b) k h (flipped a b e) (λ x. sym (g x)))

@@ -1,6 +1,6 @@
 -- The form of a literal: the normal term of left minus right, compared to 0; the first coefficient is made positive, and the constant is
 -- brought to the other side.
-use Rattle.std.specs.Prelude.{ℤ, pos, negsuc, neg_ℤ, Bool, true, false, List, ◌++◌, map, if◌then◌else◌}
+use Rattle.std.specs.Prelude.{◌≡◌, ℕ, ◌+◌, ◌<◌, ℤ, ◌<ℤ◌, unsigned_abs, pos, negsuc, neg_ℤ, Bool, true, false, List, ◌++◌, map, if◌then◌else◌}
 use Rattle.std.specs.Prelude.{int_lt}
 use Rattle.il_core.specs.declared.operator.Relation.{Relation}
 use Rattle.il_core.specs.declared.operator.Relation.TheVariants.{Eq, Ne, Lt, Le, Gt, Ge}
@@ -10,8 +10,8 @@ use Rattle.sym_terms.specs.Tree.{Tree, tree_of}
 use Rattle.sym_simplify.specs.declared.normal.LitForm.{LitForm}
 use Rattle.sym_simplify.specs.declared.normal.LitForm.TheVariants.{Always, Never, Keep}
 use Rattle.sym_simplify.specs.Form.{Form, constant, part, form_value}
-use Rattle.sym_simplify.specs.Norm.{scaled, normal_of, summands}
-use Rattle.sym_simplify.specs.Normal.{constant_of}
+use Rattle.sym_simplify.specs.Norm.{scaled, normal_of, summands, heft}
+use Rattle.sym_simplify.specs.Normal.{IsNormal, constant_of}
 use Rattle.sym_simplify.specs.Merge.{scale_parts}
 use Rattle.sym_simplify.specs.Held.{form_of}
 
@@ -60,3 +60,13 @@ abbrev pub form_holds : LiteralForm → State → Bool
 form_holds always s = true
 form_holds never s = false
 form_holds (keep n r bound) s = compares r (form_value n s) bound
+
+abbrev pub BeginsAboveZero : Form → Type 0
+BeginsAboveZero (constant c) = ⊥
+BeginsAboveZero (part c a n) = pos 0 <ℤ c
+
+-- what each literal's form has: a normal term with the constant 0 and a first coefficient above 0, and numbers that are together below k
+abbrev pub IsKeptBelow : ℕ → LiteralForm → Type 0
+IsKeptBelow k always = Unit {0}
+IsKeptBelow k never = Unit {0}
+IsKeptBelow k (keep n r bound) = IsNormal n × (constant_of n ≡ pos 0) × BeginsAboveZero n × (heft n + unsigned_abs bound < k)

@@ -42,7 +42,7 @@ impl Forms {
     ghost use Rattle.sym_simplify.specs.Norm.{norm};
     ghost use Rattle.sym_simplify.specs.Table.{form_at};
     ghost use Rattle.sym_simplify.specs.Held.{form_of};
-    ghost use Rattle.sym_simplify.specs.Literal.{difference, compared, literal_form_of, form_holds};
+    ghost use Rattle.sym_simplify.specs.Literal.{difference, compared, literal_form_of, form_holds, IsKeptBelow};
     ghost use Rattle.sym_simplify.specs.Linear.{linear_in, linear_of};
 
     /// No terms and no normal terms.
@@ -142,7 +142,12 @@ impl Forms {
     /// The form of the literal with these sides, which holds in the same states. Earlier numbers keep their terms and
     /// normal terms, also after `NoMemory`. The stack holds as many calls as the sides are deep.
     #[tactic(auto, using(crate::proofs::LiteralForms::literal_value))]
-    pub fn literal(&mut self, relation: Relation, left: TermId, right: TermId) -> Result<LitForm, NoMemory>
+    pub fn literal(
+        &mut self,
+        relation: Relation,
+        left: TermId,
+        right: TermId,
+    ) -> Result<LitForm, NoMemory>
         requires left { left.index < length self.old.terms }
         requires right { right.index < length self.old.terms }
         requires weight { weight (tree_at self.old.terms left) + weight (tree_at self.old.terms right) < 2 ^ 100 }
@@ -150,6 +155,7 @@ impl Forms {
         requires right_depth { depth (tree_at self.old.terms right) ≤ 1000 }
         ensures form { IfOk result (λ f. literal_form_of f ≡ compared relation (difference (tree_at self.old.terms left) (tree_at self.old.terms right))) }
         ensures value { IfOk result (λ f. (s : State) → form_holds (literal_form_of f) s ≡ compares relation (value_of (tree_at self.old.terms left) s) (value_of (tree_at self.old.terms right) s)) }
+        ensures fits { IfOk result (λ f. IsKeptBelow (2 ^ 100) (literal_form_of f)) }
         ensures terms { self.new.terms ≡ self.old.terms }
         ensures kept { Keeps self.old.forms self.new.forms }
     {

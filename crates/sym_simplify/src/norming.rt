@@ -8,7 +8,7 @@ ghost use Rattle.sym_terms.specs.Measure.{weight};
 ghost use Rattle.sym_simplify.specs.Norm.{norm};
 ghost use Rattle.sym_simplify.specs.Table.{ArePartsWithin, form_at};
 ghost use Rattle.sym_simplify.specs.Open.{open_form};
-ghost use Rattle.sym_simplify.specs.Literal.{difference, compared, literal_form_of};
+ghost use Rattle.sym_simplify.specs.Literal.{difference, compared, literal_form_of, IsKeptBelow};
 ghost use Rattle.sym_simplify.specs.Known.{IsKnown};
 
 use crate::{FormAtom, FormId, FormTable, LitForm, OpenForm};
@@ -105,7 +105,7 @@ fn side_in(
     ensures kept { Keeps table.old table.new }
     ensures known { IsKnown terms.now table.new known.new }
 {
-    if is_sum(terms.node(id)) && seen.insert(id.index)? {
+    if is_sum(terms.node(id)) && !known.contains_key(&id.index) && seen.insert(id.index)? {
         return open_in(terms, table, known, seen, id);
     }
     let form = norm_in(terms, table, known, seen, id)?;
@@ -132,6 +132,7 @@ pub fn literal_in(
     requires weight { weight (tree_at terms.now left) + weight (tree_at terms.now right) < 2 ^ 100 }
     requires known { IsKnown terms.now table.old known.old }
     ensures form { IfOk result (λ f. literal_form_of f ≡ compared relation (difference (tree_at terms.now left) (tree_at terms.now right))) }
+    ensures fits { IfOk result (λ f. IsKeptBelow (2 ^ 100) (literal_form_of f)) }
     ensures kept { Keeps table.old table.new }
     ensures known { IsKnown terms.now table.new known.new }
 {

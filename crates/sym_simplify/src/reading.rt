@@ -59,11 +59,7 @@ fn atom_at(alloc: Global, table: &FormTable, atom: FormAtom) -> Result<Atom, NoM
 
 /// The normal term of parts alone.
 #[tactic(auto, using(crate::proofs::HeldParts::rolled))]
-pub fn normal_from(
-    alloc: Global,
-    table: &FormTable,
-    parts: &[FormPart],
-) -> Result<Normal, NoMemory>
+pub fn normal_from(alloc: Global, table: &FormTable, parts: &[FormPart]) -> Result<Normal, NoMemory>
     requires { ArePartsWithin table.now parts.now }
     ensures { IfOk result (λ n. form_of n ≡ on_top table.now parts.now (constant (pos 0))) }
 {

@@ -9,7 +9,7 @@ ghost use Rattle.sym_simplify.specs.Form.{form_value};
 ghost use Rattle.sym_simplify.specs.Norm.{norm as normal_form, heft};
 ghost use Rattle.sym_simplify.specs.Normal.{IsNormal};
 ghost use Rattle.sym_simplify.specs.Held.{form_of};
-ghost use Rattle.sym_simplify.specs.Literal.{form_of_literal, literal_form_of, form_holds};
+ghost use Rattle.sym_simplify.specs.Literal.{form_of_literal, literal_form_of, form_holds, IsKeptBelow};
 ghost use Rattle.sym_simplify.specs.Linear.{linear_in, linear_of};
 
 use crate::{Forms, LinearTerm, LitForm, Normal};
@@ -42,7 +42,8 @@ fn normalized(alloc: Global, term: &Term) -> Result<Normal, NoMemory>
     forms.read(form)
 }
 
-/// The form of a literal, which holds in the same states.
+/// The form of a literal, which holds in the same states. Its parts are a normal term with the constant 0 and a first
+/// coefficient above 0, and their coefficients and the bound are together less than 2^100 in absolute value.
 #[tactic(auto, using(crate::proofs::Alone::literal_keeps_truth))]
 pub fn norm_literal(alloc: Global, literal: &Literal) -> Result<LitForm, NoMemory>
     requires weight { weight (tree_of literal.now.left) + weight (tree_of literal.now.right) < 2 ^ 100 }
@@ -50,6 +51,7 @@ pub fn norm_literal(alloc: Global, literal: &Literal) -> Result<LitForm, NoMemor
     requires right_depth { depth (tree_of literal.now.right) ≤ 1000 }
     ensures form { IfOk result (λ f. literal_form_of f ≡ form_of_literal literal.now) }
     ensures value { IfOk result (λ f. (s : State) → form_holds (literal_form_of f) s ≡ literal_holds literal.now s) }
+    ensures fits { IfOk result (λ f. IsKeptBelow (2 ^ 100) (literal_form_of f)) }
 {
     literal_normalized(alloc, literal)
 }
@@ -59,7 +61,8 @@ fn literal_normalized(alloc: Global, literal: &Literal) -> Result<LitForm, NoMem
     requires weight { weight (tree_of literal.now.left) + weight (tree_of literal.now.right) < 2 ^ 100 }
     requires left_depth { depth (tree_of literal.now.left) ≤ 1000 }
     requires right_depth { depth (tree_of literal.now.right) ≤ 1000 }
-    ensures { IfOk result (λ f. literal_form_of f ≡ form_of_literal literal.now) }
+    ensures form { IfOk result (λ f. literal_form_of f ≡ form_of_literal literal.now) }
+    ensures fits { IfOk result (λ f. IsKeptBelow (2 ^ 100) (literal_form_of f)) }
 {
     let mut forms = Forms::new(alloc)?;
     let left = forms.put_term(&literal.left)?;

@@ -24,13 +24,13 @@ open_in-merged-requires-clause-small t c =
 pub open_in-norm_in-requires : goal.open_in-norm_in-requires
 open_in-norm_in-requires t c =
     let small : weight (tree_at c.args.terms.now c.in-Mul.a) < 1267650600228229401496703205376
-        = left_bound (tree_at c.args.terms.now c.args.id) _ (tree_at c.args.terms.now c.in-Mul.b) _ c.in-Mul.ensures.term c.requires.weight in
+    = left_bound (tree_at c.args.terms.now c.args.id) _ (tree_at c.args.terms.now c.in-Mul.b) _ c.in-Mul.ensures.term c.requires.weight in
     search rules
 
 pub open_in-norm_in-requires-in-Mul : goal.open_in-norm_in-requires-in-Mul
 open_in-norm_in-requires-in-Mul t c =
     let small : weight (tree_at c.args.terms.now c.in-Mul.b) < 1267650600228229401496703205376
-        = right_bound (tree_at c.args.terms.now c.args.id) (tree_at c.args.terms.now c.in-Mul.a) _ _ c.in-Mul.ensures.term c.requires.weight in
+    = right_bound (tree_at c.args.terms.now c.args.id) (tree_at c.args.terms.now c.in-Mul.a) _ _ c.in-Mul.ensures.term c.requires.weight in
     search rules
 
 pub open_in-product-requires-clause-small : goal.open_in-product-requires-clause-small

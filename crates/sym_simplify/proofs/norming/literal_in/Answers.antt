@@ -4,6 +4,7 @@ use Rattle.sym_terms.specs.Nodes.{tree_at}
 use Rattle.sym_simplify.specs.Literal.{difference}
 use Rattle.sym_simplify.proofs.Cells.{form_kept}
 use Rattle.sym_simplify.proofs.LiteralForms.{form_again}
+use Rattle.sym_simplify.proofs.KeptForms.{literal_fits}
 use Rattle.sym_simplify.proofs.Remembered.{sides_bound, difference_form, difference_small}
 use Rattle.sym_simplify.proofs.norming.literal_in.Goals as goal
 
@@ -27,3 +28,7 @@ returns-clause-form c =
     (form_kept c.norm_in.new.table c.norm_in-2.new.table c.in_ok-first.first c.norm_in-2.ensures.kept c.in_ok-first.ensures.within ∙ c.in_ok-first.ensures.form)
     c.in_ok-second.ensures.form)
     c.compared.ensures
+
+pub returns-clause-fits : goal.returns-clause-fits
+returns-clause-fits c =
+    literal_fits c.compared.result c.args.relation (tree_at c.args.terms.now c.args.left) (tree_at c.args.terms.now c.args.right) _ c.requires.weight (returns-clause-form c)

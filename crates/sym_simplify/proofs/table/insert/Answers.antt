@@ -1,6 +1,6 @@
 use Rattle.std.proofs.Common.{◌∙◌, sym, ap, Some}
 use Rattle.sym_simplify.proofs.Cells.{table_more}
-use Rattle.sym_simplify.proofs.Tests.{cell_is}
+use Rattle.sym_simplify.proofs.EqualCells.{cell_is}
 use Rattle.sym_simplify.proofs.table.insert.Goals as goal
 
 pub returns-clause-node : goal.returns-clause-node

@@ -34,7 +34,7 @@ loop-i-preserved c =
 pub returns-clause-form : goal.returns-clause-form
 returns-clause-form c =
     let past : (length c.args.left.now.parts.items ≤ c.loop-i.i) ⊎ (length c.args.right.now.parts.items ≤ c.loop-i.j)
-        = elim c.loop-i-test.branch [ then-loop-i-test+else-j-len w ↦ inr (omega arith) | else-loop-i-test w ↦ inl (omega arith) ] in
+    = elim c.loop-i-test.branch [ then-loop-i-test+else-j-len w ↦ inr (omega arith) | else-loop-i-test w ↦ inl (omega arith) ] in
     rw (c.with_sum.ensures.constant, c.with_sum.ensures.parts)
     (finished c.args.self.now c.args.left.now.parts.items c.args.right.now.parts.items c.args.left.now.constant c.args.right.now.constant
     c.loop-i.parts.items c.append_from.new.parts.items c.append_from-2.new.parts.items c.loop-i.i c.loop-i.j past (search rules) (search rules) c.loop-i.invariant)
