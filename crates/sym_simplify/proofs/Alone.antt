@@ -1,5 +1,5 @@
 -- What holds of the answers for terms and literals that stand alone.
-use Rattle.std.proofs.Common.{◌≡◌, ◌∙◌, refl, sym, ap, ℕ, ◌<◌, Result, Ok, Err, IfOk, arith}
+use Rattle.std.proofs.Common.{◌≡◌, ◌∙◌, ap, ℕ, ◌<◌, Result, Ok, Err, IfOk, arith}
 use Rattle.il_core.specs.Evaluation.{State}
 use Rattle.sym_terms.specs.declared.term.Literal.{Literal}
 use Rattle.sym_terms.specs.Tree.{Tree, tree_of}

@@ -5,13 +5,12 @@ use Rattle.indexmap.specs.IndexSet.{insert_key}
 use Rattle.sym_simplify.specs.declared.node.FormId.{FormId}
 use Rattle.sym_simplify.specs.declared.node.FormAtom.{FormAtom}
 use Rattle.sym_simplify.specs.declared.node.FormAtom.TheVariants.{Var, Mul, Div, Mod}
-use Rattle.sym_simplify.specs.declared.node.FormPart.{FormPart}
 use Rattle.sym_simplify.specs.declared.node.FormNode.{FormNode}
 use Rattle.sym_simplify.specs.declared.node.FormNode.TheVariants.{Constant, More}
 use Rattle.sym_simplify.specs.contracts.node.FormNodePartialEq.TheImpl as same
 use Rattle.sym_simplify.specs.contracts.node.FormNodeEq.TheImpl.Laws.{laws-law}
 use Rattle.sym_simplify.specs.Form.{Form, constant, part}
-use Rattle.sym_simplify.specs.Table.{HasSidesBelow, NamesBelow, IsTable, form_in, factor_over, form_over, forms_of, form_at, factor_at, node_form, on_top, ArePartsWithin}
+use Rattle.sym_simplify.specs.Table.{HasSidesBelow, NamesBelow, IsTable, form_in, factor_over, form_over, forms_of, form_at, factor_at, node_form}
 use Rattle.sym_terms.specs.Grown.{Keeps}
 use Rattle.sym_terms.proofs.Grown.{keeps_le, keeps_self, keeps_trans, kept-grown, grown-node}
 use Rattle.sym_terms.proofs.Numbered.{get_push, one_place}

@@ -1,11 +1,11 @@
 -- The order of normal terms and of atoms passes on from the first to the third through the second.
-use Rattle.std.proofs.Common.{◌≡◌, ◌∙◌, refl, sym, ap, ℕ, ℤ, arith}
+use Rattle.std.proofs.Common.{◌≡◌, refl, sym, ap, ℕ, ℤ, arith}
 use Rattle.std.specs.Ordering.{nat_cmp, int_cmp, ordering_then}
 use Rattle.std.specs.declared.cmp.Ordering.{Ordering}
 use Rattle.std.specs.declared.cmp.Ordering.TheVariants.{Less, Equal, Greater}
 use Rattle.std.proofs.lemmas.Bool.Decides.{nat_tests}
 use Rattle.std.proofs.lemmas.Int.{ints}
-use Rattle.sym_simplify.specs.Form.{Kind, Form, constant, part, Factor, place, pair}
+use Rattle.sym_simplify.specs.Form.{Form, constant, part, Factor, place, pair}
 use Rattle.sym_simplify.specs.Order.{rank, form_cmp, factor_cmp}
 use Rattle.sym_simplify.proofs.Ordered.{equal-numbers, equal-integers}
 

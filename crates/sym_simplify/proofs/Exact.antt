@@ -1,14 +1,13 @@
 -- What the definition of a normal term says in plain words, of each term.
-use Rattle.std.proofs.Common.{◌≡◌, ◌∙◌, refl, sym, ap, List}
+use Rattle.std.proofs.Common.{◌≡◌, ◌∙◌, sym, ap}
 use Rattle.std.specs.Cmp.{IsTotalOrder}
-use Rattle.std.specs.declared.cmp.Ordering.TheVariants.{Equal}
 use Rattle.sym_terms.specs.Tree.{Tree}
 use Rattle.sym_simplify.specs.Form.{Form, constant, part, Factor}
 use Rattle.sym_simplify.specs.Order.{form_cmp, factor_cmp}
 use Rattle.sym_simplify.specs.Norm.{summands, norm}
 use Rattle.sym_simplify.specs.Normal.{IsOrdered, IsNormal, constant_of, coefficient_of, numbers_sum, coefficients_sum}
 use Rattle.sym_simplify.specs.Laws.{IsExactOrder}
-use Rattle.sym_simplify.proofs.Ordered.{form_equal, factor_equal, factor_self, form_flip, factor_flip}
+use Rattle.sym_simplify.proofs.Ordered.{factor_equal, factor_self, form_flip, factor_flip}
 use Rattle.sym_simplify.proofs.Chains.{form_chain, factor_chain}
 use Rattle.sym_simplify.proofs.Unique.{same_normal, coefficient_is, constant_is}
 

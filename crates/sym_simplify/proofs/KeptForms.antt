@@ -1,5 +1,5 @@
 -- The form of a literal is normal, begins above 0, and has small numbers.
-use Rattle.std.proofs.Common.{◌≡◌, ◌≢◌, ◌∙◌, refl, sym, ap, ℕ, ◌+◌, ◌<◌, ◌≤◌, ℤ, pos, negsuc, ◌*ℤ◌, ◌-ℤ◌, ◌<ℤ◌, neg_ℤ, unsigned_abs, Bool, true, false, if◌then◌else◌, List, [], ◌∷◌, ◌++◌, map, Result, Ok, Err, IfOk, arith}
+use Rattle.std.proofs.Common.{◌≡◌, ◌≢◌, refl, ℕ, ◌+◌, ◌<◌, ℤ, pos, negsuc, ◌*ℤ◌, ◌<ℤ◌, neg_ℤ, unsigned_abs, Bool, true, false, if◌then◌else◌, ◌++◌, map, Result, Ok, Err, IfOk, arith}
 use Rattle.std.specs.Prelude.{int_lt}
 use Rattle.std.proofs.lemmas.Int.{ints}
 use Rattle.il_core.specs.declared.operator.Relation.{Relation}
@@ -8,10 +8,10 @@ use Rattle.sym_terms.specs.Tree.{Tree}
 use Rattle.sym_terms.specs.Measure.{weight}
 use Rattle.sym_simplify.specs.declared.normal.LitForm.{LitForm}
 use Rattle.sym_simplify.specs.Form.{Form, constant, part, Factor}
-use Rattle.sym_simplify.specs.Norm.{scaled, normal_of, summands, heft}
+use Rattle.sym_simplify.specs.Norm.{scaled, summands, heft}
 use Rattle.sym_simplify.specs.Normal.{IsBelow, IsNormal, constant_of}
 use Rattle.sym_simplify.specs.Merge.{scale_parts}
-use Rattle.sym_simplify.specs.Literal.{LiteralForm, literal_form_of, always, never, keep, difference, mirrored, without_constant, kept, compared, IsKeptBelow}
+use Rattle.sym_simplify.specs.Literal.{literal_form_of, always, never, difference, mirrored, without_constant, kept, compared, IsKeptBelow}
 use Rattle.sym_simplify.proofs.Merges.{times_not_zero}
 use Rattle.sym_simplify.proofs.Sides.{normal-is, append-sides, scaled-sides, summands-sides}
 use Rattle.sym_simplify.proofs.LiteralForms.{minus-one, negated_heft, difference_heft}

@@ -1,5 +1,5 @@
 -- The form of a literal holds where the literal does.
-use Rattle.std.proofs.Common.{◌≡◌, ◌∙◌, refl, sym, ap, ℕ, ◌+◌, ◌*◌, ◌<◌, ◌≤◌, ℤ, pos, negsuc, ◌+ℤ◌, ◌-ℤ◌, ◌*ℤ◌, neg_ℤ, unsigned_abs, Bool, true, false, not, if◌then◌else◌, List, [], ◌∷◌, ◌++◌, map, arith, Result, Ok, Err, IfOk}
+use Rattle.std.proofs.Common.{◌≡◌, ◌∙◌, refl, sym, ap, ◌+◌, ◌*◌, ◌≤◌, ℤ, pos, negsuc, ◌+ℤ◌, ◌-ℤ◌, ◌*ℤ◌, neg_ℤ, Bool, true, false, not, if◌then◌else◌, List, [], ◌∷◌, ◌++◌, map, arith, Result, Ok, Err, IfOk}
 use Rattle.std.proofs.Math.IntN.{pred_ℤ-*ℤ, zero-*ℤ}
 use Rattle.std.proofs.lemmas.Int.{ints, unsigned_abs-mul}
 use Rattle.std.specs.Ordering.{int_eq}
@@ -7,18 +7,18 @@ use Rattle.std.specs.Prelude.{int_lt}
 use Rattle.il_core.specs.declared.operator.Relation.{Relation}
 use Rattle.il_core.specs.declared.operator.Relation.TheVariants.{Eq, Ne, Lt, Le, Gt, Ge}
 use Rattle.il_core.specs.Evaluation.{State, compares}
-use Rattle.sym_terms.specs.Tree.{Tree, tree_of}
+use Rattle.sym_terms.specs.Tree.{Tree}
 use Rattle.sym_terms.specs.Value.{value_of}
 use Rattle.sym_terms.specs.Measure.{weight}
-use Rattle.sym_simplify.specs.Form.{Form, constant, part, Factor, factor_value, form_value}
-use Rattle.sym_simplify.specs.Norm.{Summand, scaled, normal_of, summands, norm, heft}
+use Rattle.sym_simplify.specs.Form.{Form, constant, part, factor_value, form_value}
+use Rattle.sym_simplify.specs.Norm.{scaled, summands, norm, heft}
 use Rattle.sym_simplify.specs.Normal.{constant_of}
 use Rattle.sym_simplify.specs.Merge.{merge, scale, scale_parts}
 use Rattle.sym_simplify.specs.declared.normal.LitForm.{LitForm}
 use Rattle.sym_simplify.specs.declared.node.FormPart.{FormPart}
 use Rattle.sym_simplify.specs.declared.node.FormNode.{FormNode}
 use Rattle.sym_simplify.specs.Table.{factor_at, on_top}
-use Rattle.sym_simplify.specs.Literal.{LiteralForm, literal_form_of, always, never, keep, difference, mirrored, without_constant, kept, compared, form_holds}
+use Rattle.sym_simplify.specs.Literal.{literal_form_of, always, never, keep, difference, mirrored, without_constant, kept, compared, form_holds}
 use Rattle.sym_simplify.proofs.NormValues.{total, add-assoc, sum-times, times-times, normal-value, total-append, total-scaled, summands-value}
 use Rattle.sym_simplify.proofs.Hefts.{reach, normal-heft, reach-append, reach-scaled, summands-reach}
 use Rattle.sym_simplify.proofs.Merges.{difference_is}

@@ -1,14 +1,14 @@
 -- The normal term of summands one list after the other is the sum of the lists' normal terms; multiplied summands have the multiplied normal term.
-use Rattle.std.proofs.Common.{◌≡◌, ◌≢◌, ◌∙◌, refl, sym, ap, subst, ℕ, ◌*◌, ◌≤◌, ℤ, pos, negsuc, ◌+ℤ◌, ◌*ℤ◌, unsigned_abs, Bool, true, false, if◌then◌else◌, List, [], ◌∷◌, ◌++◌, map, arith}
+use Rattle.std.proofs.Common.{◌≡◌, ◌≢◌, ◌∙◌, refl, sym, ap, subst, ◌*◌, ◌≤◌, ℤ, pos, negsuc, ◌+ℤ◌, ◌*ℤ◌, unsigned_abs, Bool, true, false, if◌then◌else◌, List, [], ◌∷◌, ◌++◌, map, arith}
 use Rattle.std.proofs.Math.Nat.{mul-le-mul}
-use Rattle.std.proofs.Math.IntN.{+ℤ_idl, +ℤ_idr, zero-*ℤ, *ℤ-zero}
+use Rattle.std.proofs.Math.IntN.{+ℤ_idl, zero-*ℤ, *ℤ-zero}
 use Rattle.std.proofs.lemmas.Int.{ints, unsigned_abs-mul}
 use Rattle.std.specs.Ordering.{int_eq}
 use Rattle.std.specs.declared.cmp.Ordering.{Ordering}
 use Rattle.std.specs.declared.cmp.Ordering.TheVariants.{Less, Equal, Greater}
 use Rattle.sym_simplify.specs.Form.{Form, constant, part, Factor}
 use Rattle.sym_simplify.specs.Order.{factor_cmp}
-use Rattle.sym_simplify.specs.Norm.{Summand, alone, often, scaled, before, normal_of}
+use Rattle.sym_simplify.specs.Norm.{Summand, alone, often, scaled, normal_of}
 use Rattle.sym_simplify.specs.Normal.{IsBelow, IsOrdered, constant_of, where_equal, coefficient_of, numbers_sum, coefficients_sum}
 use Rattle.sym_simplify.specs.Merge.{merge_at, merge_part, merge, scale_parts, scale}
 use Rattle.sym_simplify.proofs.Ordered.{factor_equal}

@@ -1,15 +1,14 @@
 -- The normal term of a term from those of its sides.
-use Rattle.std.proofs.Common.{◌≡◌, ◌∙◌, refl, sym, ap, ℕ, ◌+◌, ◌*◌, ◌<◌, ◌≤◌, ℤ, pos, unsigned_abs, List, [], ◌∷◌, ◌++◌, arith}
+use Rattle.std.proofs.Common.{◌≡◌, ◌∙◌, refl, ap, ℕ, ◌+◌, ◌*◌, ◌<◌, ◌≤◌, ℤ, unsigned_abs, List, arith}
 use Rattle.std.proofs.Math.Nat.{mul-le-mul, mul_comm}
 use Rattle.std.proofs.Math.IntN.{+ℤ_idr}
 use Rattle.sym_terms.specs.Tree.{Tree, number, variable, sum, product, quotient, remainder}
 use Rattle.sym_terms.specs.Measure.{weight}
-use Rattle.sym_simplify.specs.Form.{Kind, over, rest, kind_value, Form, constant, part, Factor, place, pair}
-use Rattle.sym_simplify.specs.Order.{form_cmp}
-use Rattle.sym_simplify.specs.Norm.{Summand, lesser_first, normal_of, product_of, division_of, summands, norm, heft}
+use Rattle.sym_simplify.specs.Form.{Kind, over, rest, kind_value, Form, constant, part, place}
+use Rattle.sym_simplify.specs.Norm.{Summand, normal_of, product_of, division_of, summands, norm, heft}
 use Rattle.sym_simplify.specs.Merge.{merge, scale}
 use Rattle.sym_simplify.specs.Arithmetic.{single_form, product_form, division_form}
-use Rattle.sym_simplify.proofs.Hefts.{norm_heft, weight-positive, le-trans}
+use Rattle.sym_simplify.proofs.Hefts.{norm_heft, weight-positive}
 use Rattle.sym_simplify.proofs.Merges.{normal_append, normal_scaled}
 
 pub norm_number : (c : ℤ) → norm (number c) ≡ constant c

@@ -1,5 +1,5 @@
 -- What is known of normal terms from call to call.
-use Rattle.std.proofs.Common.{◌≡◌, ◌∙◌, refl, sym, ap, ℕ, suc, ◌+◌, ◌*◌, ◌<◌, ◌≤◌, ◌⊎◌, inl, inr, Bool, true, false, cond, Option, Some, List, [], ◌∷◌, length, slice_get, negsuc, arith, nat_eq}
+use Rattle.std.proofs.Common.{◌≡◌, ◌∙◌, refl, sym, ap, ℕ, suc, ◌+◌, ◌<◌, ◌⊎◌, inl, inr, Bool, true, false, cond, Option, Some, List, [], ◌∷◌, length, slice_get, negsuc, arith, nat_eq}
 use Rattle.std.proofs.lemmas.Bool.Decides.{nat_tests}
 use Rattle.std.proofs.lemmas.Option.{none-some, same_Some}
 use Rattle.std.specs.HashMap.{get}
@@ -12,13 +12,13 @@ use Rattle.sym_terms.proofs.Terms.{tree_kept}
 use Rattle.sym_simplify.specs.declared.node.FormId.{FormId}
 use Rattle.sym_simplify.specs.declared.node.FormPart.{FormPart}
 use Rattle.sym_simplify.specs.declared.node.FormNode.{FormNode}
-use Rattle.sym_simplify.specs.Form.{Form, part}
+use Rattle.sym_simplify.specs.Form.{Form}
 use Rattle.sym_terms.specs.Tree.{Tree}
 use Rattle.sym_terms.specs.Measure.{weight}
 use Rattle.sym_simplify.specs.Norm.{norm, heft}
 use Rattle.sym_simplify.specs.Merge.{merge, scale}
 use Rattle.sym_simplify.specs.Literal.{difference}
-use Rattle.sym_simplify.specs.Table.{HasSidesBelow, form_at, factor_at, on_top, ArePartsWithin}
+use Rattle.sym_simplify.specs.Table.{HasSidesBelow, form_at, on_top, ArePartsWithin}
 use Rattle.sym_simplify.specs.Known.{Known, IsKnown}
 use Rattle.sym_simplify.proofs.Cells.{form_kept, atom_kept, sides_further}
 use Rattle.sym_simplify.proofs.LiteralForms.{difference_merged, difference_heft}

@@ -4,7 +4,7 @@ use Rattle.std.specs.Ordering.{int_eq}
 use Rattle.std.specs.declared.cmp.Ordering.{Ordering}
 use Rattle.std.specs.declared.cmp.Ordering.TheVariants.{Less, Equal, Greater}
 use Rattle.sym_terms.specs.Tree.{Tree, number, variable, sum, product, quotient, remainder}
-use Rattle.sym_simplify.specs.Form.{Kind, over, rest, Form, constant, part, Factor, pair}
+use Rattle.sym_simplify.specs.Form.{Kind, over, rest, Form, constant, part, Factor}
 use Rattle.sym_simplify.specs.Order.{form_cmp, factor_cmp}
 use Rattle.sym_simplify.specs.Norm.{Summand, alone, often, scaled, before, beside, insert, shift, normal_of, lesser_first, product_of, division_of, summands, norm}
 use Rattle.sym_simplify.specs.Normal.{IsOrdered, IsNormal, HasNormalSides}

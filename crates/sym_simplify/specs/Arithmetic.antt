@@ -1,5 +1,5 @@
 -- The normal terms of products, quotients and remainders, from those of their sides.
-use Rattle.std.specs.Prelude.{ℤ, pos}
+use Rattle.std.specs.Prelude.{pos}
 use Rattle.sym_simplify.specs.Form.{Kind, kind_value, Form, constant, part, Factor, pair}
 use Rattle.sym_simplify.specs.Order.{form_cmp}
 use Rattle.sym_simplify.specs.Norm.{lesser_first}

@@ -1,6 +1,6 @@
 -- The form of a literal: the normal term of left minus right, compared to 0; the first coefficient is made positive, and the constant is
 -- brought to the other side.
-use Rattle.std.specs.Prelude.{◌≡◌, ℕ, ◌+◌, ◌<◌, ℤ, ◌<ℤ◌, unsigned_abs, pos, negsuc, neg_ℤ, Bool, true, false, List, ◌++◌, map, if◌then◌else◌}
+use Rattle.std.specs.Prelude.{◌≡◌, ℕ, ◌+◌, ◌<◌, ℤ, ◌<ℤ◌, unsigned_abs, pos, negsuc, neg_ℤ, Bool, true, false, ◌++◌, map, if◌then◌else◌}
 use Rattle.std.specs.Prelude.{int_lt}
 use Rattle.il_core.specs.declared.operator.Relation.{Relation}
 use Rattle.il_core.specs.declared.operator.Relation.TheVariants.{Eq, Ne, Lt, Le, Gt, Ge}

@@ -1,6 +1,6 @@
 -- A table of normal terms: each cell names only earlier positions, and no two are equal; the normal term of a position is found by
 -- following them.
-use Rattle.std.specs.Prelude.{◌≡◌, ℕ, ℤ, pos, ◌<◌, Some, List, [], ◌∷◌, length, slice_get, slice_index_or}
+use Rattle.std.specs.Prelude.{◌≡◌, ℕ, pos, ◌<◌, Some, List, [], ◌∷◌, length, slice_get, slice_index_or}
 use Rattle.sym_simplify.specs.declared.node.FormId.{FormId}
 use Rattle.sym_simplify.specs.declared.node.FormAtom.{FormAtom}
 use Rattle.sym_simplify.specs.declared.node.FormAtom.TheVariants.{Var, Mul, Div, Mod}

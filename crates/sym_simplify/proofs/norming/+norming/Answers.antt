@@ -1,5 +1,5 @@
 -- The bounds of sides, and what is known after one more answer.
-use Rattle.std.proofs.Common.{rules, ◌<◌, ◌∙◌, arith}
+use Rattle.std.proofs.Common.{rules, ◌<◌, ◌∙◌}
 use Rattle.sym_terms.specs.Nodes.{tree_at}
 use Rattle.sym_terms.specs.Measure.{weight}
 use Rattle.sym_simplify.specs.Form.{constant}

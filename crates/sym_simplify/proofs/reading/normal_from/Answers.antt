@@ -1,4 +1,4 @@
-use Rattle.std.proofs.Common.{rules, ◌∙◌, pos, refl}
+use Rattle.std.proofs.Common.{rules, ◌∙◌, pos}
 use Rattle.sym_simplify.specs.Form.{constant}
 use Rattle.sym_simplify.proofs.HeldParts.{before_step, before_end, rolled}
 use Rattle.sym_simplify.proofs.reading.normal_from.Goals as goal
