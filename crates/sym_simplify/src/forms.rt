@@ -7,8 +7,9 @@ use std::collections::{HashMap, HashSet};
 use std::marker::Model;
 use sym_terms::{Pool, Term, TermId};
 
-/// Terms and their normal terms, each kept once and named by its number (hash consing). Each normal term is found
-/// once. Equal normal terms have equal numbers.
+/// Terms and their normal terms, each kept once and named by its number (hash consing: A. P. Ershov, 1958). Equal normal
+/// terms have equal numbers, and so have equal terms. What was found stays, so a term that is met again costs one
+/// look-up. `NoMemory` comes only where memory runs out.
 #[derive(Debug, Drop)]
 pub struct Forms {
     terms: Pool,
@@ -94,7 +95,8 @@ impl Forms {
     }
 
     /// The number of the normal term of a term. Earlier numbers keep their terms and normal terms, also after
-    /// `NoMemory`. The stack holds as many calls as the term is deep.
+    /// `NoMemory`. Each term below it that is not known yet is worked on at most twice. The stack holds as many calls as
+    /// the term is deep.
     pub fn norm(&mut self, id: TermId) -> Result<FormId, NoMemory>
         requires id { id.index < length self.old.terms }
         requires weight { weight (tree_at self.old.terms id) < 2 ^ 100 }

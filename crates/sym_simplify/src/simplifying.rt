@@ -18,7 +18,8 @@ use std::alloc::Global;
 use sym_terms::{Literal, Term};
 
 /// The normal term of a term, which has the term's value in every state. Its coefficients and its constant are together
-/// less than 2^100 in absolute value.
+/// less than 2^100 in absolute value. `NoMemory` comes only where memory runs out. The cost is that of one merge of the
+/// parts for each sum, and of one product for each number that multiplies a part.
 #[tactic(auto, using(crate::proofs::Alone::norm_keeps))]
 pub fn norm(alloc: Global, term: &Term) -> Result<Normal, NoMemory>
     requires weight { weight (tree_of term.now) < 2 ^ 100 }
@@ -43,7 +44,8 @@ fn normalized(alloc: Global, term: &Term) -> Result<Normal, NoMemory>
 }
 
 /// The form of a literal, which holds in the same states. Its parts are a normal term with the constant 0 and a first
-/// coefficient above 0, and their coefficients and the bound are together less than 2^100 in absolute value.
+/// coefficient above 0, and their coefficients and the bound are together less than 2^100 in absolute value. `NoMemory`
+/// comes only where memory runs out. The cost is that of the normal terms of both sides and one merge more.
 #[tactic(auto, using(crate::proofs::Alone::literal_keeps_truth))]
 pub fn norm_literal(alloc: Global, literal: &Literal) -> Result<LitForm, NoMemory>
     requires weight { weight (tree_of literal.now.left) + weight (tree_of literal.now.right) < 2 ^ 100 }
@@ -70,7 +72,8 @@ fn literal_normalized(alloc: Global, literal: &Literal) -> Result<LitForm, NoMem
     forms.literal(literal.relation, left, right)
 }
 
-/// The normal term of a term with places alone; `None` comes exactly where it has another atom.
+/// The constant and the places of a term's normal term; `None` comes exactly where it has an atom other than a place.
+/// `NoMemory` comes only where memory runs out. The cost is that of the normal term.
 pub fn linear(alloc: Global, term: &Term) -> Result<Option<LinearTerm>, NoMemory>
     requires weight { weight (tree_of term.now) < 2 ^ 100 }
     requires depth { depth (tree_of term.now) ≤ 1000 }
