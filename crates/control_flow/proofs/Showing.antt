@@ -14,7 +14,7 @@ use Rattle.flow_graph.proofs.Tracks.{differ_push}
 use Rattle.control_flow.specs.Cycle.{IsCycle, IsEntry}
 use Rattle.control_flow.specs.Forward.{AreRows, InRow, ComesBack, IsEntered, IsForward}
 use Rattle.control_flow.proofs.Listing.{not_both, unmarked_from}
-use Rattle.control_flow.proofs.Walks.{arc_before, met_inside}
+use Rattle.control_flow.proofs.Walks.{arc_before, met_inside, walk_end}
 use Rattle.control_flow.proofs.Ways.{walk_free, walk_plain, way_found}
 use Rattle.control_flow.proofs.OneEntry.{two_entries}
 
@@ -207,3 +207,17 @@ setting n arcs heads tails cycle slice items blocked paths found sound h t c m s
   no_start = λ i. (cycle_inside n arcs cycle sound c 0 i).1 refl;
   paths_are = rw f p;
 }
+
+-- a line into which no arc goes from a greater line is not come back to
+pub not_back : (rows : List (List ℕ)) (row : List ℕ) (a : ℕ) → ((u : ℕ) → InRow rows u a → IsIn row u × (u ≢ a)) → ((u : ℕ) → IsIn row u → u ≤ a) → ComesBack rows a → ⊥
+not_back rows row a r low c =
+    let t = last_step (InRow rows) a c.0 c.1 a c.2 in
+    let p = r t.0 t.3 in
+    let l = low t.0 p.0 in
+    let n = p.1 in
+    let h = high t.0 t.1 t.4 (walk_end (InRow rows) a t.1 t.0 t.2) in
+    omega (arith, l, n, h)
+  where
+    high : (k : ℕ) (front : List ℕ) → ((j : ℕ) → IsIn front j → IsIn (c.0 ∷ c.1) j) → IsIn (a ∷ front) k → a ≤ k
+    high k front f (inl e) = omega (arith, e)
+    high k front f (inr i) = c.3 k (f k i)

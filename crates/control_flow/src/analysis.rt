@@ -65,7 +65,7 @@ fn shape_of(
     requires forward { AreRows (length graph.now.nodes) (IsForward graph.now.arcs) forward.now }
     ensures { IfOk result (IsShape graph.now) }
 {
-    let found = forward_cycle(alloc, graph, forward)?;
+    let found = forward_cycle(alloc, graph, tails, forward)?;
     match found {
         None => Ok(Shape::Reducible),
         Some(line) => {
