@@ -5,4 +5,5 @@ pub mod Unknown
 pub mod Typing
 pub mod Modes
 pub mod Ranges
+pub mod Built
 pub mod Rules

@@ -13,7 +13,7 @@ use Rattle.il_types.specs.declared.rules.Found.{Found}
 use Rattle.il_types.specs.declared.rules.Rule.{Rule}
 use Rattle.il_types.specs.declared.rules.Rule.TheVariants as rule
 use Rattle.il_types.specs.Counts.{counts_behind, too_many}
-use Rattle.il_types.specs.Names.{Setting, Table, setting, entries, first_taken, front_of}
+use Rattle.il_types.specs.Names.{Setting, Table, setting, entries, first_taken, front_of, counts_at}
 use Rattle.il_types.specs.Unknown.{unknown}
 use Rattle.il_types.specs.Typing.{is_typed}
 use Rattle.il_types.specs.Modes.{is_allowed}
@@ -39,9 +39,6 @@ fault rule.Limited s c x = option_map (λ m. unnamed (code.TooMany m)) (too_many
 -- the refusal at a place for what was found
 abbrev pub refusal_of : Found → ℕ → Refusal
 refusal_of found place = record { code = found.code; place = place; name = found.name }
-
-abbrev pub counts_at : List Placed → ℕ → Counts
-counts_at stmts i = (front_of (take i stmts)).counts
 
 -- the first name of statement i that is taken
 abbrev pub twice_at : List Placed → ℕ → Statement → Option (List ℕ)
