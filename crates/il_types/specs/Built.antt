@@ -12,6 +12,7 @@ use Rattle.il_core.specs.declared.statement.Mode.{Mode}
 use Rattle.il_core.specs.declared.statement.Mode.TheVariants as mode
 use Rattle.il_core.specs.declared.statement.TypeUse.{TypeUse}
 use Rattle.il_core.specs.declared.statement.TypeUse.TheVariants as use_
+use Rattle.il_types.specs.declared.range.Range.{Range}
 use Rattle.il_types.specs.Names.{Setting, Spot, setting, counts_at, declaration}
 use Rattle.il_types.specs.Typing.{bound_value, kind_of_use, is_truth}
 
@@ -19,12 +20,7 @@ use Rattle.il_types.specs.Typing.{bound_value, kind_of_use, is_truth}
 abbrev pub where_declared : Setting → Spot → Setting
 where_declared s spot = setting s.table s.stmts (counts_at s.stmts spot.0).procedures spot.0
 
--- the least and the greatest value of a type, and whether an assignment wraps into them
-pub record Range : Type 0 where
-  pub least : ℤ
-  pub greatest : ℤ
-  pub wrap : Bool
-
+-- the range of a type that is no wrapping one
 abbrev pub plain : ℤ → ℤ → Range
 plain least greatest = record { least = least; greatest = greatest; wrap = false }
 

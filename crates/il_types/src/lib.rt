@@ -3,11 +3,14 @@
 //! hash table in the order in which they stand, under scope and name, so the work is linear in the text but for the look-ups by name.
 #![tactic(auto)]
 
+mod bounds;
 mod checking;
 mod counts;
 mod kind;
 mod modes;
 mod names;
+mod narrow;
+mod range;
 mod ranges;
 mod rules;
 mod typing;

@@ -1,4 +1,4 @@
-ghost use Rattle.std.specs.Prelude.{◌≡◌, ◌<◌, ◌++◌, ◌∷◌, [], not, map, Some, None, MatchOption, IfOk, OnErr, if◌then◌else◌};
+ghost use Rattle.std.specs.Prelude.{◌≡◌, ◌<◌, ◌++◌, ◌∷◌, [], not, map, Some, None, MatchOption, IfOk, IfSome, OnErr, length, if◌then◌else◌};
 ghost use Rattle.std.specs.Map.{lookup};
 ghost use Rattle.il_core.specs.Statement.{statement_of, placed};
 ghost use Rattle.il_types.specs.Names.{same_key, is_taken, earlier, of_procedure, in_force, declaration, setting, said, first_taken, entries_from, entries, IsDeclared};
@@ -188,7 +188,8 @@ pub(crate) fn declare_all(alloc: Global, stmts: &[Stmt]) -> Result<Names, TextEn
 
 /// A statement that is there, and what it says.
 fn said(stmts: &[Stmt], spot: (usize, usize)) -> Option<((usize, usize), &Form)>
-    ensures { MatchOption result (said (map placed stmts.now) spot ≡ None) (λ d. said (map placed stmts.now) spot ≡ Some (d.0, statement_of d.1.now)) }
+    ensures value { MatchOption result (said (map placed stmts.now) spot ≡ None) (λ d. said (map placed stmts.now) spot ≡ Some (d.0, statement_of d.1.now)) }
+    ensures within { IfSome result (λ d. d.0.0 < length stmts.now) }
 {
     match stmts.get(spot.0) {
         None => None,
@@ -204,7 +205,8 @@ pub(crate) fn declaration<'a>(
     at: usize,
     name: &Name,
 ) -> Option<((usize, usize), &'a Form)>
-    ensures { MatchOption result (declaration (setting names.now (map placed stmts.now) owner at) name.now ≡ None) (λ d. declaration (setting names.now (map placed stmts.now) owner at) name.now ≡ Some (d.0, statement_of d.1.now)) }
+    ensures value { MatchOption result (declaration (setting names.now (map placed stmts.now) owner at) name.now ≡ None) (λ d. declaration (setting names.now (map placed stmts.now) owner at) name.now ≡ Some (d.0, statement_of d.1.now)) }
+    ensures within { IfSome result (λ d. d.0.0 < length stmts.now) }
 {
     match names.in_force(stmts, owner, at, name) {
         None => None,
