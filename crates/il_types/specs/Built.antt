@@ -1,7 +1,7 @@
 -- What a written expression stands for: constants and enumeration values are their numbers, variables and OLD values the numbers of
 -- their places; and the place that a variable gets, with its range.
 use Rattle.std.specs.Prelude.{ℕ, ◌+◌, ◌-◌, ℤ, pos, Bool, true, false, List, [], length, Option, Some, None, unwrap_or}
-use Rattle.std.specs.Option.{option_and_then}
+use Rattle.std.specs.Option.{option_and_then, option_map}
 use Rattle.il_core.specs.Expression.{Expression}
 use Rattle.il_core.specs.Expression as e
 use Rattle.il_core.specs.Tree.{Tree, number, word, former, constant, minus, opposite, two}
@@ -68,23 +68,33 @@ place_number s spot = (counts_at s.stmts spot.0).variables
 abbrev pub copy_number : Setting → Spot → ℕ
 copy_number s spot = (counts_at s.stmts s.at).variables + (counts_at s.stmts spot.0).copies
 
--- a name as a value
-abbrev pub built_value : Setting → Spot → Statement → Option Expression
-built_value s spot (constant_is _ value) = Some (e.number value)
-built_value s spot (enum_type _ _) = Some (e.number (pos (spot.1 - 1)))
-built_value s spot (variable _ _ used) = Some (read (is_flag (record s { at = spot.0 }) used) (place_number s spot))
-built_value s spot _ = None
+-- the place of the variable that a name stands for, 0 where it has no declaration in force
+abbrev pub assigned_place : Setting → List ℕ → ℕ
+assigned_place s name = unwrap_or (option_map (λ d. place_number s d.0) (declaration s name)) 0
 
--- a name behind OLD
-abbrev pub built_copy : Setting → Spot → Statement → Option Expression
-built_copy s spot (variable _ _ used) = Some (read (is_flag (record s { at = spot.0 }) used) (copy_number s spot))
-built_copy s spot _ = None
+-- what a statement declares, as a value
+abbrev pub built_value : Setting → Spot → Statement → Expression
+built_value s spot (constant_is _ value) = e.number value
+built_value s spot (enum_type _ _) = e.number (pos (spot.1 - 1))
+built_value s spot (variable _ _ used) = read (is_flag (record s { at = spot.0 }) used) (place_number s spot)
+built_value s spot _ = e.number (pos 0)
+
+abbrev pub built_name : Setting → List ℕ → Expression
+built_name s name = unwrap_or (option_map (λ d. built_value s d.0 d.1) (declaration s name)) (e.number (pos 0))
+
+-- what a statement declares, behind OLD
+abbrev pub built_recalled : Setting → Spot → Statement → Expression
+built_recalled s spot (variable _ _ used) = read (is_flag (record s { at = spot.0 }) used) (copy_number s spot)
+built_recalled s spot _ = e.number (pos 0)
+
+abbrev pub built_copy : Setting → List ℕ → Expression
+built_copy s name = unwrap_or (option_map (λ d. built_recalled s d.0 d.1) (declaration s name)) (e.number (pos 0))
 
 -- what an expression stands for; 0 stands where a name has no value
 abbrev pub built : Setting → Tree → Expression
 built s (number n) = e.number (pos n)
-built s (word name) = unwrap_or (option_and_then (λ d. built_value s d.0 d.1) (declaration s name)) (e.number (pos 0))
-built s (former name) = unwrap_or (option_and_then (λ d. built_copy s d.0 d.1) (declaration s name)) (e.number (pos 0))
+built s (word name) = built_name s name
+built s (former name) = built_copy s name
 built s (constant b) = e.truth b
 built s (minus a) = e.minus (built s a)
 built s (opposite a) = e.opposite (built s a)

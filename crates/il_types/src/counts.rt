@@ -10,7 +10,7 @@ use std::alloc::Global;
 
 /// What the statements in front of a statement come to.
 #[derive(Clone, Copy, Debug, PartialEq, Eq)]
-pub(crate) struct Counts {
+pub struct Counts {
     /// The statements.
     pub statements: usize,
     /// The procedures.
@@ -122,8 +122,9 @@ pub(crate) fn too_many(counts: Counts) -> Option<Many>
     }
 }
 
-/// The counts in front of each statement of a text.
-pub(crate) fn all_counts(alloc: Global, stmts: &[Stmt]) -> Result<Vec<Counts>, NoMemory>
+/// The counts in front of each statement of a text, as many as there are statements. An error comes where memory runs out. The
+/// time is linear.
+pub fn all_counts(alloc: Global, stmts: &[Stmt]) -> Result<Vec<Counts>, NoMemory>
     ensures { IfOk result (λ v. AreCounted (map placed stmts.now) v.items) }
 {
     let mut all = Vec::new(alloc);

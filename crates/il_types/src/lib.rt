@@ -17,6 +17,9 @@ mod typing;
 mod unknown;
 
 pub use checking::{first_refusal, one_answer};
+pub use counts::{Counts, all_counts};
+pub use names::{Names, declaration, declare_all};
+pub use range::{Range, counts_before, is_flag, range_of_use};
 
 #[cfg(test)]
 mod tests;

@@ -12,7 +12,7 @@ use std::marker::Model;
 
 /// The declarations of a text in their order: under scope and name the number of the statement, and which of its names it is.
 #[derive(Debug, Drop)]
-pub(crate) struct Names {
+pub struct Names {
     table: IndexMap<(usize, Name), (usize, usize)>,
 }
 
@@ -163,8 +163,9 @@ impl Names {
     }
 }
 
-/// The declarations of a text, or the first statement that declares a name that is taken.
-pub(crate) fn declare_all(alloc: Global, stmts: &[Stmt]) -> Result<Names, TextEnd>
+/// The declarations of a text, or the first statement that declares a name that is taken (`Code::Twice`, with the name). The time
+/// is linear in the text but for the look-ups by name.
+pub fn declare_all(alloc: Global, stmts: &[Stmt]) -> Result<Names, TextEnd>
     ensures { Declares (map placed stmts.now) result }
 {
     let mut names = Names::new(alloc);
@@ -197,8 +198,9 @@ fn said(stmts: &[Stmt], spot: (usize, usize)) -> Option<((usize, usize), &Form)>
     }
 }
 
-/// The declaration of a name that is in force, with the form that makes it.
-pub(crate) fn declaration<'a>(
+/// The declaration of a name that is in force at statement `at` of procedure `owner` (0: before all procedures): its statement's
+/// number, which of that statement's names it is, and the form that makes it. `None` where there is none. One or two look-ups.
+pub fn declaration<'a>(
     names: &Names,
     stmts: &'a [Stmt],
     owner: usize,

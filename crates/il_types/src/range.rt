@@ -12,7 +12,7 @@ use il_core::{Bound, Form, Stmt, TypeUse};
 
 /// The least and the greatest value of a type, and whether an assignment wraps into them.
 #[derive(Clone, Copy, Debug, PartialEq, Eq)]
-pub(crate) struct Range {
+pub struct Range {
     /// The least value.
     pub least: i128,
     /// The greatest value.
@@ -32,8 +32,8 @@ fn plain(least: i128, greatest: i128) -> Range
     }
 }
 
-/// The counts in front of statement `at`, of the list of all counts.
-pub(crate) fn counts_before(counts: &[Counts], _stmts: &[Stmt], at: usize) -> Counts
+/// The counts in front of statement `at`, of the list of all counts. Constant time.
+pub fn counts_before(counts: &[Counts], _stmts: &[Stmt], at: usize) -> Counts
     requires counted { AreCounted (map placed _stmts.now) counts.now }
     requires within { at < length _stmts.now }
     ensures { result ≡ counts_at (map placed _stmts.now) at }
@@ -97,8 +97,9 @@ fn range_in(
     }
 }
 
-/// The range of a type.
-pub(crate) fn range_of_use(
+/// The range of a type that statement `at` of procedure `owner` uses: BOOL has 0 and 1, an enumeration of n values 0 to n - 1; 0
+/// stands for what is not declared. A few look-ups by name.
+pub fn range_of_use(
     names: &Names,
     counts: &[Counts],
     stmts: &[Stmt],
@@ -127,8 +128,8 @@ pub(crate) fn range_of_use(
     }
 }
 
-/// Whether a variable of a type holds truth values.
-pub(crate) fn is_flag(
+/// Whether a variable of the type that statement `at` of procedure `owner` uses holds truth values. One look-up by name.
+pub fn is_flag(
     names: &Names,
     stmts: &[Stmt],
     owner: usize,
