@@ -18,8 +18,11 @@ mod unknown;
 
 pub use checking::{first_refusal, one_answer};
 pub use counts::{Counts, all_counts};
+pub use kind::Kind;
+pub use modes::Part;
 pub use names::{Names, declaration, declare_all};
 pub use range::{Range, counts_before, is_flag, range_of_use};
+pub use rules::{Found, Rule};
 
 #[cfg(test)]
 mod tests;

@@ -16,7 +16,7 @@ use il_core::{Code, Form, Name, Refusal, Stmt};
 
 /// What a statement breaks: the code, with the name that is told.
 #[derive(Clone, Copy, Debug, PartialEq, Eq)]
-pub(crate) struct Found {
+pub struct Found {
     /// Why.
     pub code: Code,
     /// The name at fault.
@@ -25,7 +25,7 @@ pub(crate) struct Found {
 
 /// The rules for statements whose names are declared once.
 #[derive(Clone, Copy, Debug, PartialEq, Eq)]
-pub(crate) enum Rule {
+pub enum Rule {
     /// Each name that is used is declared.
     Known,
     /// Each name and expression is of the kind that is needed.
