@@ -40,13 +40,13 @@ IsOfKind Whole places x = IsWhole places x
 IsOfKind Truth places x = IsCondition places x
 IsOfKind (Enumeration at) places x = IsWhole places x
 
-none_some : {A : Type 0} {B : Type 0} (a : A) → None ≡ Some a → B
+pub none_some : {A : Type 0} {B : Type 0} (a : A) → None ≡ Some a → B
 none_some a h = absurd (cc)
 
 kind_is : (k l : Kind) → Some k ≡ Some l → k ≡ l
 kind_is k l h = cc
 
-both_true : (a b : Bool) → (a && b) ≡ true → (a ≡ true) × (b ≡ true)
+pub both_true : (a b : Bool) → (a && b) ≡ true → (a ≡ true) × (b ≡ true)
 both_true true b h = (refl, h)
 both_true false b h = absurd (cc)
 
@@ -144,7 +144,7 @@ mode_is : (m n : Mode) → Some m ≡ Some n → m ≡ n
 mode_is m n h = cc
 
 -- OLD names INOUT variables alone
-recalls_inout : (p : Part) (o : Option Mode) → may_recall p o ≡ true → (m : Mode) → o ≡ Some m → is_inout m ≡ true
+pub recalls_inout : (p : Part) (o : Option Mode) → may_recall p o ≡ true → (m : Mode) → o ≡ Some m → is_inout m ≡ true
 recalls_inout part.Action o h m t = absurd (cc)
 recalls_inout p None h m t = none_some m t
 recalls_inout part.Precondition (Some mode.InOut) h m t = subst (λ n. is_inout n ≡ true) (mode_is mode.InOut m t) refl
@@ -164,13 +164,13 @@ kept_kind : (b : Bool) (l k : Kind) → kind_if b l ≡ Some k → (b ≡ true) 
 kept_kind true l k h = (refl, kind_is l k h)
 kept_kind false l k h = none_some k h
 
-whole_is : (o : Option Kind) → is_whole o ≡ true → o ≡ Some Whole
+pub whole_is : (o : Option Kind) → is_whole o ≡ true → o ≡ Some Whole
 whole_is None h = absurd (cc)
 whole_is (Some Whole) h = refl
 whole_is (Some Truth) h = absurd (cc)
 whole_is (Some (Enumeration at)) h = absurd (cc)
 
-truth_is : (o : Option Kind) → is_truth o ≡ true → o ≡ Some Truth
+pub truth_is : (o : Option Kind) → is_truth o ≡ true → o ≡ Some Truth
 truth_is None h = absurd (cc)
 truth_is (Some Whole) h = absurd (cc)
 truth_is (Some Truth) h = refl
@@ -182,13 +182,13 @@ enumeration_is at (Some Whole) h = absurd (cc)
 enumeration_is at (Some Truth) h = absurd (cc)
 enumeration_is at (Some (Enumeration b)) h = (b, refl)
 
-enumerations_are : (o p : Option Kind) → are_of_one o p ≡ true → (a : ℕ) × (b : ℕ) × (o ≡ Some (Enumeration a)) × (p ≡ Some (Enumeration b))
+pub enumerations_are : (o p : Option Kind) → are_of_one o p ≡ true → (a : ℕ) × (b : ℕ) × (o ≡ Some (Enumeration a)) × (p ≡ Some (Enumeration b))
 enumerations_are None p h = absurd (cc)
 enumerations_are (Some Whole) p h = absurd (cc)
 enumerations_are (Some Truth) p h = absurd (cc)
 enumerations_are (Some (Enumeration a)) p h = let k = enumeration_is a p h in (a, k.0, refl, k.1)
 
-one_of : (a b : Bool) → (a || b) ≡ true → (a ≡ true) ⊎ (b ≡ true)
+pub one_of : (a b : Bool) → (a || b) ≡ true → (a ≡ true) ⊎ (b ≡ true)
 one_of true b h = inl refl
 one_of false b h = inr h
 

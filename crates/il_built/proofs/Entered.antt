@@ -118,11 +118,11 @@ made stmts d k spot e = made_before stmts (length stmts) d k spot (omega arith)
     (ap (λ (xs : List Placed). lookup (same_key k) (front_of xs).table) (take_all (length stmts) stmts (omega arith)) ∙ e)
 
 -- the parts of an answer that is there
-bound : {A B : Type 0} (f : A → Option B) (o : Option A) (b : B) → option_and_then f o ≡ Some b → (a : A) × (o ≡ Some a) × (f a ≡ Some b)
+pub bound : {A B : Type 0} (f : A → Option B) (o : Option A) (b : B) → option_and_then f o ≡ Some b → (a : A) × (o ≡ Some a) × (f a ≡ Some b)
 bound f None b e = absurd (cc)
 bound f (Some a) b e = (a, refl, e)
 
-mapped : {A B : Type 0} (f : A → B) (o : Option A) (b : B) → option_map f o ≡ Some b → (a : A) × (o ≡ Some a) × (f a ≡ b)
+pub mapped : {A B : Type 0} (f : A → B) (o : Option A) (b : B) → option_map f o ≡ Some b → (a : A) × (o ≡ Some a) × (f a ≡ b)
 mapped f None b e = absurd (cc)
 mapped f (Some a) b e = (a, refl, cc)
 
