@@ -1,3 +1,5 @@
 pub mod Declaring
 pub mod Passing
+pub mod Counting
+pub mod Saturated
 pub mod OneAnswer

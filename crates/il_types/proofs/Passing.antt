@@ -1,5 +1,5 @@
 -- One pass over the statements of a text, one statement at a time.
-use Rattle.std.proofs.Common.{◌≡◌, ℕ, ◌+◌, ◌<◌, ◌≤◌, ◌∙◌, sym, ap, subst, refl, inl, inr, ◌⊎◌, List, ◌++◌, length, take, arith, get_or, below_more}
+use Rattle.std.proofs.Common.{◌≡◌, ℕ, ◌+◌, ◌<◌, ◌≤◌, ◌∙◌, sym, ap, subst, refl, inl, inr, List, ◌++◌, length, take, arith, get_or, below_more}
 use Rattle.std.specs.Prelude.{Option, Some, None, map, slice_get}
 use Rattle.std.specs.Option.{option_and_then, option_map}
 use Rattle.std.proofs.lemmas.Bool.{cases_lt}
@@ -14,8 +14,8 @@ use Rattle.il_types.specs.declared.counts.Counts.{Counts}
 use Rattle.il_types.specs.declared.rules.Found.{Found}
 use Rattle.il_types.specs.declared.rules.Rule.{Rule}
 use Rattle.il_types.specs.Counts.{counts_behind}
-use Rattle.il_types.specs.Names.{Table, Front, front_of, one_more, setting, entries, first_taken, IsDeclared}
-use Rattle.il_types.specs.Rules.{fault, naming, refusal_of, broken, counts_at, twice_at, twice, passes_with, at_stmt, ComesFirst, ComesNowhere, Refuses, Answers}
+use Rattle.il_types.specs.Names.{Table, Front, front_of, one_more, setting, entries, first_taken, IsDeclared, counts_at}
+use Rattle.il_types.specs.Rules.{fault, naming, refusal_of, broken, twice_at, twice, passes_with, at_stmt, ComesFirst, ComesNowhere, Refuses, Answers}
 
 -- the front with one statement more
 pub front_more : (stmts : List Stmt) (i : ℕ) (stmt : Stmt) → i < length stmts → stmt ≡ get_or stmts i stmt

@@ -2,7 +2,7 @@
 -- the OLD copies and the lines.
 use Rattle.std.specs.Prelude.{ℕ, ◌+◌, Bool, true, false, Option, Some, None, if◌then◌else◌, nat_lt}
 use Rattle.il_core.specs.Run.{is_inout}
-use Rattle.il_core.specs.Statement.{Statement, title, constant_is, range_type, wrap_type, enum_type, procedure, variable, pre, post, assign, if_true, otherwise, end_if, loop, end_loop, exit, exit_when, label, goto, skip, assert, return, end_procedure, finish}
+use Rattle.il_core.specs.Statement.{Statement, title, constant_is, range_type, wrap_type, enum_type, procedure, variable, post, finish}
 use Rattle.il_core.specs.declared.refusal.Many.{Many}
 use Rattle.il_core.specs.declared.refusal.Many.TheVariants as many
 use Rattle.il_types.specs.declared.counts.Counts.{Counts}

@@ -5,4 +5,7 @@ pub mod Unknown
 pub mod Typing
 pub mod Modes
 pub mod Ranges
+pub mod Counted
+pub mod Built
+pub mod Narrow
 pub mod Rules

@@ -1,6 +1,6 @@
 -- The modes allow a use of a variable: only a variable that is not IN is assigned, OLD names an INOUT variable and stands in PRE, POST and
 -- ASSERT alone, PRE names no OUT or LOCAL variable, POST no LOCAL one.
-use Rattle.std.specs.Prelude.{ℕ, Bool, true, false, not, ◌&&◌, List, Option, Some, None}
+use Rattle.std.specs.Prelude.{ℕ, Bool, true, false, ◌&&◌, List, Option, Some, None}
 use Rattle.std.specs.Option.{option_and_then}
 use Rattle.il_core.specs.Tree.{Tree, number, word, former, constant, minus, opposite, two}
 use Rattle.il_core.specs.Statement.{Statement, variable, pre, post, assign, if_true, exit_when, assert}

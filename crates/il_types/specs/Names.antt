@@ -1,12 +1,11 @@
 -- The names that the statements of a text declare, each in its scope, and which declaration of a name is in force at a statement:
 -- that of a variable of the procedure in which the statement stands, or that of a constant, type, enumeration value or
 -- procedure in an earlier statement.
-use Rattle.std.specs.Prelude.{◌≡◌, ℕ, suc, ◌+◌, Bool, ◌&&◌, ◌||◌, List, [], ◌∷◌, ◌++◌, take, fold, Option, Some, None, is_some, if◌then◌else◌, nat_eq, nat_lt, slice_get}
+use Rattle.std.specs.Prelude.{◌≡◌, ℕ, suc, Bool, ◌&&◌, ◌||◌, List, [], ◌∷◌, ◌++◌, take, fold, Option, Some, None, is_some, if◌then◌else◌, nat_eq, nat_lt, slice_get}
 use Rattle.std.specs.Option.{option_and_then, option_map, option_or}
 use Rattle.std.specs.Map.{lookup}
 use Rattle.std.specs.Cmp.Lexicographic.{pointwise}
-use Rattle.il_core.specs.Statement.{Statement, Placed, placed, constant_is, range_type, wrap_type, enum_type, procedure, variable}
-use Rattle.il_core.specs.declared.statement.Stmt.{Stmt}
+use Rattle.il_core.specs.Statement.{Statement, Placed, constant_is, range_type, wrap_type, enum_type, procedure, variable}
 use Rattle.il_types.specs.declared.counts.Counts.{Counts}
 use Rattle.il_types.specs.Counts.{no_counts, counts_behind}
 
@@ -57,6 +56,10 @@ one_more f x = record { counts = counts_behind f.counts x.says; table = f.table 
 
 abbrev pub front_of : List Placed → Front
 front_of stmts = fold one_more (record { counts = no_counts; table = [] }) stmts
+
+-- the counts in front of statement i
+abbrev pub counts_at : List Placed → ℕ → Counts
+counts_at stmts i = (front_of (take i stmts)).counts
 
 -- a name may not repeat one of its scope or of the whole text
 abbrev pub is_taken : Table → Key → Bool

@@ -2,7 +2,6 @@
 use Rattle.std.specs.Prelude.{ℤ, Bool, true, Option, Some, None, int_le}
 use Rattle.il_core.specs.Statement.{Statement, range_type, wrap_type, variable}
 use Rattle.il_core.specs.declared.statement.Bound.{Bound}
-use Rattle.il_core.specs.declared.statement.TypeUse.{TypeUse}
 use Rattle.il_core.specs.declared.statement.TypeUse.TheVariants as use_
 use Rattle.il_types.specs.Names.{Setting}
 use Rattle.il_types.specs.Typing.{bound_value}

@@ -1,5 +1,5 @@
 -- The rules of a text, in the order in which they are checked, each over the whole text: names declared once, names known, types,
--- modes, ranges and limits. The refusal of a text is that of the first rule that a statement breaks, at the first such statement.
+-- modes, ranges, bounds and limits. The refusal of a text is that of the first rule that a statement breaks, at the first such statement.
 use Rattle.std.specs.Prelude.{◌≡◌, ℕ, ◌<◌, Bool, ◌⊎◌, List, [], ◌∷◌, take, Option, Some, None, Result, Ok, Err, if◌then◌else◌, slice_get}
 use Rattle.std.specs.Option.{option_and_then, option_map}
 use Rattle.il_core.specs.Statement.{Statement, Placed}
@@ -13,11 +13,12 @@ use Rattle.il_types.specs.declared.rules.Found.{Found}
 use Rattle.il_types.specs.declared.rules.Rule.{Rule}
 use Rattle.il_types.specs.declared.rules.Rule.TheVariants as rule
 use Rattle.il_types.specs.Counts.{counts_behind, too_many}
-use Rattle.il_types.specs.Names.{Setting, Table, setting, entries, first_taken, front_of}
+use Rattle.il_types.specs.Names.{Setting, Table, setting, entries, first_taken, front_of, counts_at}
 use Rattle.il_types.specs.Unknown.{unknown}
 use Rattle.il_types.specs.Typing.{is_typed}
 use Rattle.il_types.specs.Modes.{is_allowed}
 use Rattle.il_types.specs.Ranges.{has_range}
+use Rattle.il_types.specs.Narrow.{is_narrow}
 
 abbrev pub naming : Code → List ℕ → Found
 naming c name = record { code = c; name = Some name }
@@ -34,14 +35,12 @@ fault rule.Known s c x = option_map (naming code.Unknown) (unknown s x)
 fault rule.Typed s c x = unless (is_typed s x) code.Typing
 fault rule.Allowed s c x = unless (is_allowed s x) code.Access
 fault rule.Filled s c x = unless (has_range s x) code.EmptyRange
+fault rule.Narrow s c x = unless (is_narrow s x) code.Wide
 fault rule.Limited s c x = option_map (λ m. unnamed (code.TooMany m)) (too_many (counts_behind c x))
 
 -- the refusal at a place for what was found
 abbrev pub refusal_of : Found → ℕ → Refusal
 refusal_of found place = record { code = found.code; place = place; name = found.name }
-
-abbrev pub counts_at : List Placed → ℕ → Counts
-counts_at stmts i = (front_of (take i stmts)).counts
 
 -- the first name of statement i that is taken
 abbrev pub twice_at : List Placed → ℕ → Statement → Option (List ℕ)
@@ -57,7 +56,7 @@ broken r table stmts i x = fault r (setting table stmts (counts_at stmts i).proc
 abbrev pub passes_with : Table → List Placed → List (ℕ → Statement → Option Found)
 passes_with table stmts =
     broken rule.Known table stmts ∷ broken rule.Typed table stmts ∷ broken rule.Allowed table stmts
-    ∷ broken rule.Filled table stmts ∷ broken rule.Limited table stmts ∷ []
+    ∷ broken rule.Filled table stmts ∷ broken rule.Narrow table stmts ∷ broken rule.Limited table stmts ∷ []
 
 abbrev pub passes : List Placed → List (ℕ → Statement → Option Found)
 passes stmts = twice stmts ∷ passes_with (front_of stmts).table stmts

@@ -1,6 +1,6 @@
 -- The kind of an expression is whole number, truth value or one enumeration, by its form and the declarations of its names; a
 -- statement is mistyped where a name stands for something of another sort than it must, or an expression has no kind or the wrong one.
-use Rattle.std.specs.Prelude.{ℕ, ℤ, Bool, true, false, not, ◌&&◌, ◌||◌, List, Option, Some, None, is_some, if◌then◌else◌, nat_eq}
+use Rattle.std.specs.Prelude.{ℕ, ℤ, Bool, true, false, ◌&&◌, ◌||◌, List, Option, Some, None, is_some, if◌then◌else◌, nat_eq}
 use Rattle.std.specs.Option.{option_and_then}
 use Rattle.il_core.specs.Tree.{Tree, number, word, former, constant, minus, opposite, two}
 use Rattle.il_core.specs.Statement.{Statement, constant_is, range_type, wrap_type, enum_type, variable, pre, post, assign, if_true, exit_when, assert}

@@ -1,14 +1,16 @@
-ghost use Rattle.std.specs.Prelude.{◌≡◌, ◌<◌, ◌+◌, ◌^◌, nat_lt};
-ghost use Rattle.il_core.specs.Statement.{statement_of};
+ghost use Rattle.std.specs.Prelude.{◌≡◌, ◌<◌, ◌+◌, ◌^◌, nat_lt, map, IfOk};
+ghost use Rattle.il_core.specs.Statement.{statement_of, placed};
 ghost use Rattle.il_core.specs.Run.{is_inout};
 ghost use Rattle.il_types.specs.Counts.{is_line, no_counts, counts_behind, too_many};
+ghost use Rattle.il_types.specs.Counted.{AreCounted};
 ghost use Rattle.il_types.specs.CountsBelow.{IsBehind};
 
-use il_core::{Form, Many, Mode};
+use il_core::{Form, Many, Mode, NoMemory, Stmt};
+use std::alloc::Global;
 
 /// What the statements in front of a statement come to.
 #[derive(Clone, Copy, Debug, PartialEq, Eq)]
-pub(crate) struct Counts {
+pub struct Counts {
     /// The statements.
     pub statements: usize,
     /// The procedures.
@@ -118,4 +120,18 @@ pub(crate) fn too_many(counts: Counts) -> Option<Many>
     } else {
         None
     }
+}
+
+/// The counts in front of each statement of a text, as many as there are statements. An error comes where memory runs out. The
+/// time is linear.
+pub fn all_counts(alloc: Global, stmts: &[Stmt]) -> Result<Vec<Counts>, NoMemory>
+    ensures { IfOk result (λ v. AreCounted (map placed stmts.now) v.items) }
+{
+    let mut all = Vec::new(alloc);
+    let mut counts = no_counts();
+    for (i, stmt) in stmts.iter().enumerate() {
+        all.push(counts)?;
+        counts = counts_behind(counts, i, &stmt.form);
+    }
+    Ok(all)
 }

@@ -1,6 +1,6 @@
 /// The kind of a value.
 #[derive(Clone, Copy, Debug, PartialEq, Eq)]
-pub(crate) enum Kind {
+pub enum Kind {
     /// A whole number.
     Whole,
     /// A truth value.

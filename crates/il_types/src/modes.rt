@@ -9,7 +9,7 @@ use il_core::{Form, Mode, Name, RawExpr, Stmt};
 
 /// Where an expression stands.
 #[derive(Clone, Copy, Debug, PartialEq, Eq)]
-pub(crate) enum Part {
+pub enum Part {
     /// In PRE.
     Precondition,
     /// In POST.

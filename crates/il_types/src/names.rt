@@ -1,4 +1,4 @@
-ghost use Rattle.std.specs.Prelude.{◌≡◌, ◌<◌, ◌++◌, ◌∷◌, [], not, map, Some, None, MatchOption, IfOk, OnErr, if◌then◌else◌};
+ghost use Rattle.std.specs.Prelude.{◌≡◌, ◌<◌, ◌++◌, ◌∷◌, [], not, map, Some, None, MatchOption, IfOk, IfSome, OnErr, length, if◌then◌else◌};
 ghost use Rattle.std.specs.Map.{lookup};
 ghost use Rattle.il_core.specs.Statement.{statement_of, placed};
 ghost use Rattle.il_types.specs.Names.{same_key, is_taken, earlier, of_procedure, in_force, declaration, setting, said, first_taken, entries_from, entries, IsDeclared};
@@ -12,7 +12,7 @@ use std::marker::Model;
 
 /// The declarations of a text in their order: under scope and name the number of the statement, and which of its names it is.
 #[derive(Debug, Drop)]
-pub(crate) struct Names {
+pub struct Names {
     table: IndexMap<(usize, Name), (usize, usize)>,
 }
 
@@ -163,8 +163,9 @@ impl Names {
     }
 }
 
-/// The declarations of a text, or the first statement that declares a name that is taken.
-pub(crate) fn declare_all(alloc: Global, stmts: &[Stmt]) -> Result<Names, TextEnd>
+/// The declarations of a text, or the first statement that declares a name that is taken (`Code::Twice`, with the name). The time
+/// is linear in the text but for the look-ups by name.
+pub fn declare_all(alloc: Global, stmts: &[Stmt]) -> Result<Names, TextEnd>
     ensures { Declares (map placed stmts.now) result }
 {
     let mut names = Names::new(alloc);
@@ -188,7 +189,8 @@ pub(crate) fn declare_all(alloc: Global, stmts: &[Stmt]) -> Result<Names, TextEn
 
 /// A statement that is there, and what it says.
 fn said(stmts: &[Stmt], spot: (usize, usize)) -> Option<((usize, usize), &Form)>
-    ensures { MatchOption result (said (map placed stmts.now) spot ≡ None) (λ d. said (map placed stmts.now) spot ≡ Some (d.0, statement_of d.1.now)) }
+    ensures value { MatchOption result (said (map placed stmts.now) spot ≡ None) (λ d. said (map placed stmts.now) spot ≡ Some (d.0, statement_of d.1.now)) }
+    ensures within { IfSome result (λ d. d.0.0 < length stmts.now) }
 {
     match stmts.get(spot.0) {
         None => None,
@@ -196,15 +198,17 @@ fn said(stmts: &[Stmt], spot: (usize, usize)) -> Option<((usize, usize), &Form)>
     }
 }
 
-/// The declaration of a name that is in force, with the form that makes it.
-pub(crate) fn declaration<'a>(
+/// The declaration of a name that is in force at statement `at` of procedure `owner` (0: before all procedures): its statement's
+/// number, which of that statement's names it is, and the form that makes it. `None` where there is none. One or two look-ups.
+pub fn declaration<'a>(
     names: &Names,
     stmts: &'a [Stmt],
     owner: usize,
     at: usize,
     name: &Name,
 ) -> Option<((usize, usize), &'a Form)>
-    ensures { MatchOption result (declaration (setting names.now (map placed stmts.now) owner at) name.now ≡ None) (λ d. declaration (setting names.now (map placed stmts.now) owner at) name.now ≡ Some (d.0, statement_of d.1.now)) }
+    ensures value { MatchOption result (declaration (setting names.now (map placed stmts.now) owner at) name.now ≡ None) (λ d. declaration (setting names.now (map placed stmts.now) owner at) name.now ≡ Some (d.0, statement_of d.1.now)) }
+    ensures within { IfSome result (λ d. d.0.0 < length stmts.now) }
 {
     match names.in_force(stmts, owner, at, name) {
         None => None,

@@ -1,5 +1,6 @@
 ghost use Rattle.std.specs.Prelude.{◌≡◌, ◌<◌, ◌+◌, ◌^◌, ◌∷◌, [], map, Some, None};
 ghost use Rattle.il_core.specs.Statement.{statement_of, placed};
+ghost use Rattle.il_types.specs.Counted.{AreCounted};
 ghost use Rattle.il_types.specs.CountsBelow.{IsBehind};
 ghost use Rattle.il_types.specs.Names.{setting};
 ghost use Rattle.il_types.specs.Rules.{naming, unnamed, unless, fault, refusal_of, broken, IsRefused, Refuses, passes_with};
@@ -7,6 +8,7 @@ ghost use Rattle.il_types.specs.Rules.{naming, unnamed, unless, fault, refusal_o
 use crate::counts::{Counts, counts_behind, no_counts, too_many};
 use crate::modes::is_allowed;
 use crate::names::Names;
+use crate::narrow::is_narrow;
 use crate::ranges::has_range;
 use crate::typing::is_typed;
 use crate::unknown::unknown;
@@ -14,7 +16,7 @@ use il_core::{Code, Form, Name, Refusal, Stmt};
 
 /// What a statement breaks: the code, with the name that is told.
 #[derive(Clone, Copy, Debug, PartialEq, Eq)]
-pub(crate) struct Found {
+pub struct Found {
     /// Why.
     pub code: Code,
     /// The name at fault.
@@ -23,7 +25,7 @@ pub(crate) struct Found {
 
 /// The rules for statements whose names are declared once.
 #[derive(Clone, Copy, Debug, PartialEq, Eq)]
-pub(crate) enum Rule {
+pub enum Rule {
     /// Each name that is used is declared.
     Known,
     /// Each name and expression is of the kind that is needed.
@@ -32,6 +34,8 @@ pub(crate) enum Rule {
     Allowed,
     /// Each range holds a value.
     Filled,
+    /// No part of an expression has too wide static bounds.
+    Narrow,
     /// There are not too many procedures, lines and places.
     Limited,
 }
@@ -61,11 +65,13 @@ fn unless(kept: bool, code: Code) -> Option<Found>
 fn fault(
     rule: Rule,
     names: &Names,
+    before: &[Counts],
     stmts: &[Stmt],
     counts: Counts,
     at: usize,
     form: &Form,
 ) -> Option<Found>
+    requires counted { AreCounted (map placed stmts.now) before.now }
     requires behind { IsBehind counts at }
     requires room { at + 1 < 2 ^ 64 }
     ensures { result ≡ fault rule (setting names.now (map placed stmts.now) counts.procedures at) counts (statement_of form.now) }
@@ -79,6 +85,7 @@ fn fault(
         Rule::Typed => unless(is_typed(names, stmts, owner, at, form), Code::Typing),
         Rule::Allowed => unless(is_allowed(names, stmts, owner, at, form), Code::Access),
         Rule::Filled => unless(has_range(names, stmts, owner, at, form), Code::EmptyRange),
+        Rule::Narrow => unless(is_narrow(names, before, stmts, owner, at, form), Code::Wide),
         Rule::Limited => match too_many(counts_behind(counts, at, form)) {
             None => None,
             Some(many) => Some(unnamed(Code::TooMany(many))),
@@ -97,12 +104,13 @@ fn refusal_of(found: Found, place: usize) -> Refusal
 }
 
 /// The first statement that breaks a rule.
-fn first_broken(rule: Rule, names: &Names, stmts: &[Stmt]) -> Option<Refusal>
+fn first_broken(rule: Rule, names: &Names, before: &[Counts], stmts: &[Stmt]) -> Option<Refusal>
+    requires { AreCounted (map placed stmts.now) before.now }
     ensures { IsRefused (broken rule names.now (map placed stmts.now)) (map placed stmts.now) result }
 {
     let mut counts = no_counts();
     for (i, stmt) in stmts.iter().enumerate() {
-        match fault(rule, names, stmts, counts, i, &stmt.form) {
+        match fault(rule, names, before, stmts, counts, i, &stmt.form) {
             None => {}
             Some(found) => {
                 return Some(refusal_of(found, stmt.place));
@@ -114,20 +122,24 @@ fn first_broken(rule: Rule, names: &Names, stmts: &[Stmt]) -> Option<Refusal>
 }
 
 /// The refusal of a text whose names are declared once.
-pub(crate) fn first_of_rules(names: &Names, stmts: &[Stmt]) -> Option<Refusal>
+pub(crate) fn first_of_rules(names: &Names, before: &[Counts], stmts: &[Stmt]) -> Option<Refusal>
+    requires { AreCounted (map placed stmts.now) before.now }
     ensures { Refuses (passes_with names.now (map placed stmts.now)) (map placed stmts.now) result }
 {
-    if let Some(refusal) = first_broken(Rule::Known, names, stmts) {
+    if let Some(refusal) = first_broken(Rule::Known, names, before, stmts) {
         return Some(refusal);
     }
-    if let Some(refusal) = first_broken(Rule::Typed, names, stmts) {
+    if let Some(refusal) = first_broken(Rule::Typed, names, before, stmts) {
         return Some(refusal);
     }
-    if let Some(refusal) = first_broken(Rule::Allowed, names, stmts) {
+    if let Some(refusal) = first_broken(Rule::Allowed, names, before, stmts) {
         return Some(refusal);
     }
-    if let Some(refusal) = first_broken(Rule::Filled, names, stmts) {
+    if let Some(refusal) = first_broken(Rule::Filled, names, before, stmts) {
         return Some(refusal);
     }
-    first_broken(Rule::Limited, names, stmts)
+    if let Some(refusal) = first_broken(Rule::Narrow, names, before, stmts) {
+        return Some(refusal);
+    }
+    first_broken(Rule::Limited, names, before, stmts)
 }

@@ -51,7 +51,7 @@ fn type_in(spot: (usize, usize), form: &Form) -> Option<Kind>
     }
 }
 
-fn kind_of_use(
+pub(crate) fn kind_of_use(
     names: &Names,
     stmts: &[Stmt],
     owner: usize,
@@ -150,7 +150,7 @@ fn is_whole(kind: Option<Kind>) -> bool
     }
 }
 
-fn is_truth(kind: Option<Kind>) -> bool
+pub(crate) fn is_truth(kind: Option<Kind>) -> bool
     ensures { result ≡ is_truth kind }
 {
     match kind {

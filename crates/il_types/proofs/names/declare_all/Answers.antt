@@ -1,10 +1,8 @@
-use Rattle.std.proofs.Common.{◌≡◌, ◌∙◌, sym, ap, subst, refl}
-use Rattle.std.specs.Prelude.{map, Some, None, Option}
+use Rattle.std.proofs.Common.{◌≡◌, ◌∙◌, ap, refl}
+use Rattle.std.specs.Prelude.{map, Some, None}
 use Rattle.std.specs.Option.{option_map}
-use Rattle.std.proofs.lemmas.List.{take_all, length-map}
 use Rattle.il_core.specs.Statement.{placed, statement_of}
 use Rattle.il_core.specs.declared.refusal.Code.TheVariants as code
-use Rattle.il_types.specs.Names.{front_of}
 use Rattle.il_types.specs.Rules.{naming, twice}
 use Rattle.il_types.proofs.Passing.{first_here, twice_here, table_more, counts_more, before_more, nowhere, whole_front}
 use Rattle.il_types.proofs.names.declare_all.Goals as goal

@@ -2,8 +2,8 @@ use Rattle.std.proofs.Common.{◌≡◌, ℕ, ◌<◌, take}
 use Rattle.std.specs.Prelude.{map, None}
 use Rattle.il_core.specs.Statement.{placed}
 use Rattle.il_types.specs.CountsBelow.{IsBehind}
-use Rattle.il_types.specs.Names.{front_of}
-use Rattle.il_types.specs.Rules.{counts_at, twice, at_stmt}
+use Rattle.il_types.specs.Names.{front_of, counts_at}
+use Rattle.il_types.specs.Rules.{twice, at_stmt}
 use Rattle.il_types.proofs.names.declare_all.Given as goal
 
 abbrev pub invariant-loop-i : goal.invariant-loop-i

@@ -1,8 +1,9 @@
-use Rattle.std.proofs.Common.{◌≡◌, ℕ, ◌<◌, take}
+use Rattle.std.proofs.Common.{◌≡◌, ℕ, ◌<◌}
 use Rattle.std.specs.Prelude.{map, None}
 use Rattle.il_core.specs.Statement.{placed}
 use Rattle.il_types.specs.CountsBelow.{IsBehind}
-use Rattle.il_types.specs.Rules.{counts_at, broken, at_stmt}
+use Rattle.il_types.specs.Names.{counts_at}
+use Rattle.il_types.specs.Rules.{broken, at_stmt}
 use Rattle.il_types.proofs.rules.first_broken.Given as goal
 
 abbrev pub invariant-loop-i : goal.invariant-loop-i

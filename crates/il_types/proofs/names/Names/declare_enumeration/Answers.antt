@@ -1,4 +1,4 @@
-use Rattle.std.proofs.Common.{◌≡◌, ◌∙◌, ◌++◌, ◌∷◌, [], List, ℕ, sym, ap, true, false, if◌then◌else◌}
+use Rattle.std.proofs.Common.{◌∙◌, ◌++◌, ◌∷◌, [], List, ℕ, sym, ap, if◌then◌else◌}
 use Rattle.std.specs.Prelude.{IfOk, Result, Ok, Err, Option}
 use Rattle.il_core.specs.declared.memory.NoMemory.{NoMemory}
 use Rattle.il_types.specs.Names.{Table, entries_from, IsDeclared}

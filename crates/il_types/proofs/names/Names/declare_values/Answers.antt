@@ -1,5 +1,5 @@
-use Rattle.std.proofs.Common.{◌≡◌, ◌∙◌, ◌+◌, ◌++◌, ◌∷◌, [], sym, ap, drop, true, false, if◌then◌else◌}
-use Rattle.il_types.specs.Names.{is_taken, entries_from}
+use Rattle.std.proofs.Common.{◌∙◌, ◌+◌, ◌++◌, ◌∷◌, [], sym, ap, drop, if◌then◌else◌}
+use Rattle.il_types.specs.Names.{entries_from}
 use Rattle.il_types.proofs.Declaring.{far_cut, far_found, far_next, far_end, next_value, no_value}
 use Rattle.il_types.proofs.names.Names.declare_values.Goals as goal
 

@@ -1,0 +1,4 @@
+pub mod Entered
+pub mod BuiltSorts
+pub mod BuiltBounds
+pub mod BuiltFits
