@@ -42,12 +42,71 @@ fn expect(
 #[test]
 fn answers_texts(rt: HostRuntime) -> Result<(), Fail> {
     let alloc = rt.alloc();
-    expect(&rt, alloc, b"", 2, NOT_BUILT)?;
+    expect(
+        &rt,
+        alloc,
+        b"",
+        2,
+        "malpas: E06 at byte 0: statement out of order\n",
+    )?;
     expect(&rt, alloc, COPY.as_bytes(), 0, REPORT)?;
     for (from, to, status, written) in [
         ("OUT c : 0 .. 9;", "[c] OUT c:-5..0012;", 0, REPORT),
-        ("d := a;", "a := d;", 2, NOT_BUILT),
-        ("FINISH;", "FINISH; FINISH;", 2, NOT_BUILT),
+        ("d := a;", "d := a + 0;", 2, NOT_BUILT),
+        (
+            "FINISH;",
+            "FINISH; FINISH;",
+            2,
+            "malpas: E06 at byte 149: statement out of order\n",
+        ),
+        (
+            "d := a;",
+            "d := a < b < c;",
+            2,
+            "malpas: E05 at byte 108: statement has no form\n",
+        ),
+        (
+            "d := a;",
+            "ENDIF;",
+            2,
+            "malpas: E07 at byte 108: block or label unmatched\n",
+        ),
+        (
+            "LOCAL d",
+            "LOCAL a",
+            2,
+            "malpas: E08 at byte 69: name declared twice: a\n",
+        ),
+        (
+            "d := a;",
+            "d := e;",
+            2,
+            "malpas: E09 at byte 108: name unknown: e\n",
+        ),
+        (
+            "d := a;",
+            "d := a < 3;",
+            2,
+            "malpas: E10 at byte 108: wrong type\n",
+        ),
+        (
+            "d := a;",
+            "a := d;",
+            2,
+            "malpas: E11 at byte 108: wrong mode\n",
+        ),
+        (
+            "LOCAL d : 0 .. 9",
+            "LOCAL d : 9 .. 0",
+            2,
+            "malpas: E12 at byte 69: range is empty\n",
+        ),
+        (
+            "d := a;",
+            "d := a * 9223372036854775807 * 9223372036854775807;",
+            2,
+            "malpas: E13 at byte 108: expression too wide\n",
+        ),
         (
             "d := a;",
             "d #= a;",

@@ -7,12 +7,14 @@ use Rattle.il_core.specs.declared.token.Token.{Token}
 use Rattle.il_core.specs.declared.refusal.TextEnd.{TextEnd}
 use Rattle.il_core.specs.declared.refusal.TextEnd.TheVariants as end
 use Rattle.il_lexer.specs.Reading.{IsReading, LexGives, OneReading}
-use Rattle.il_syntax.specs.Parse.{Parses, OneParse}
+use Rattle.il_syntax.specs.Parse.{Parses, ParseGives, OneParse}
+use Rattle.il_blocks.specs.BlockFault.{HasNoFault, IsRefusedAt, MatchGives, OneMatch}
+use Rattle.il_types.specs.Rules as rules
 use Rattle.report_text.specs.Report.{IsWhole}
 use Rattle.report_text.specs.declared.report.Report.{Report}
 use Rattle.malpas_suite.specs.Straight.{statements_of, IsReport, ReportsStatements}
 use Rattle.malpas_suite.specs.Copies.{procedure_of, RowHolds}
-use Rattle.malpas_suite.specs.Acceptance.{said, Say, ReportsTokens, ReportsText, RefusesText, Reports, HasRefusal, AcceptGives, TokensGive, TellsRuns, OneAnswer}
+use Rattle.malpas_suite.specs.Acceptance.{said, AreSound, RefusesStatements, RefusesTokens, IsFirstRefusal, Say, IsAccepted, HaveNoReport, ReportsText, RefusesText, Reports, HasRefusal, AcceptGives, StatementsGive, TokensGive, TellsRuns, OneAnswer}
 use Rattle.malpas_suite.proofs.Outlines.{report_one}
 use Rattle.malpas_suite.proofs.Stepping.{row_holds, row_whole}
 
@@ -21,123 +23,186 @@ says : (stmts : List Stmt) → said (map placed stmts) ≡ statements_of stmts
 says [] = refl
 says (s ∷ ss) = ap (λ l. (placed s).says ∷ l) (says ss)
 
--- the report of the statements that the tokens say
-pub reported_tokens : (n : ℕ) (tokens : List Token) (stmts : List Stmt) (report : Report) → Parses n tokens (Ok (map placed stmts))
-    → IsReport (statements_of stmts) report → ReportsTokens n tokens report
-reported_tokens n tokens stmts report h r = record {
-  statements = statements_of stmts;
-  say = record { stmts = map placed stmts; parsed = h; says = says stmts };
-  is_report = r;
-}
-
--- tokens say one list of statements at most
-said_once : OneParse → (n : ℕ) (tokens : List Token) (a b : List Statement) → Say n tokens a → Say n tokens b → a ≡ b
-said_once one n tokens a b x y =
-    let same : ◌≡◌ {A = Result (List Placed) Refusal} (Ok x.stmts) (Ok y.stmts) = one n tokens (Ok x.stmts) (Ok y.stmts) x.parsed y.parsed in
-    let stmts : x.stmts ≡ y.stmts = cc in
-    sym x.says ∙ ap said stmts ∙ y.says
-
--- where the statements have no report, the tokens have none
-pub no_report : OneParse → (n : ℕ) (tokens : List Token) (stmts : List Stmt) → Parses n tokens (Ok (map placed stmts))
-    → ((report : Report) → IsReport (statements_of stmts) report → ⊥) → (report : Report) → ReportsTokens n tokens report → ⊥
-no_report one n tokens stmts h none report r =
-    let own : Say n tokens (statements_of stmts) = record { stmts = map placed stmts; parsed = h; says = says stmts } in
-    none report (subst (λ l. IsReport l report) (said_once one n tokens r.statements (statements_of stmts) r.say own) r.is_report)
-
--- where the tokens are no statements in order, they have no report
-pub no_statements : OneParse → (n : ℕ) (tokens : List Token) (refusal : Refusal) → Parses n tokens (Err refusal)
-    → (report : Report) → ReportsTokens n tokens report → ⊥
-no_statements one n tokens refusal h report r =
-    let same : ◌≡◌ {A = Result (List Placed) Refusal} (Ok r.say.stmts) (Err refusal) = one n tokens (Ok r.say.stmts) (Err refusal) r.say.parsed h in
-    cc
-
 -- the answer for the statements, by its cases
-pub none_report : (l stmts : List Stmt) (answer : Option Report) → l ≡ stmts → answer ≡ None → ReportsStatements (statements_of l) answer
-    → (report : Report) → IsReport (statements_of stmts) report → ⊥
-none_report l stmts answer e f h =
-    subst (ReportsStatements (statements_of stmts)) f (subst (λ x. ReportsStatements (statements_of x) answer) e h)
+pub none_report : (stmts : List Stmt) (answer : Option Report) → answer ≡ None → ReportsStatements (statements_of stmts) answer → HaveNoReport (map placed stmts)
+none_report stmts answer e h =
+    subst (λ l. (report : Report) → IsReport l report → ⊥) (sym (says stmts)) (subst (ReportsStatements (statements_of stmts)) e h)
 
-pub some_report : (l stmts : List Stmt) (answer : Option Report) (report : Report) → l ≡ stmts → answer ≡ Some report → ReportsStatements (statements_of l) answer
-    → IsReport (statements_of stmts) report
-some_report l stmts answer report e f h =
-    subst (ReportsStatements (statements_of stmts)) f (subst (λ x. ReportsStatements (statements_of x) answer) e h)
+pub some_report : (stmts : List Stmt) (answer : Option Report) (report : Report) → answer ≡ Some report → ReportsStatements (statements_of stmts) answer
+    → IsReport (said (map placed stmts)) report
+some_report stmts answer report e h = subst (λ l. IsReport l report) (sym (says stmts)) (subst (ReportsStatements (statements_of stmts)) e h)
+
+-- statements that are matched and break no rule
+pub sound : (stmts : List Stmt) (answer : Option Refusal) → answer ≡ None → HasNoFault (map placed stmts) → rules.Answers (map placed stmts) answer
+    → AreSound (map placed stmts)
+sound stmts answer e h k = record { matched = h; kept = subst (rules.Answers (map placed stmts)) e k }
+
+-- the refusal of blocks and labels is that of the statements
+pub unmatched : (stmts : List Placed) (e : TextEnd) → MatchGives stmts (Err e) → StatementsGive stmts (Err e)
+unmatched stmts (end.Refused refusal) h = inl (inl h)
+unmatched stmts end.NoMemory h = tt
+
+-- what the statements answer is what their tokens answer
+pub of_statements : (n : ℕ) (tokens : List Token) (l stmts : List Stmt) (r : Result Report TextEnd) → l ≡ stmts → Parses n tokens (Ok (map placed stmts))
+    → StatementsGive (map placed l) r → TokensGive n tokens r
+of_statements n tokens l stmts r e h g = by_answer r (subst (λ x. StatementsGive (map placed x) r) e g)
+  where
+    by_answer : (r : Result Report TextEnd) → StatementsGive (map placed stmts) r → TokensGive n tokens r
+    by_answer (Ok report) g = (map placed stmts, record { parsed = h; sound = g.0 }, g.1)
+    by_answer (Err (end.Refused refusal)) (inl g) = inl (inr (map placed stmts, h, g))
+    by_answer (Err (end.Refused refusal)) (inr g) = inr (g.0, map placed stmts, record { parsed = h; sound = g.1 }, g.2)
+    by_answer (Err end.NoMemory) g = tt
+
+pub unparsed : (n : ℕ) (tokens : List Token) (e : TextEnd) → ParseGives n tokens (Err e) → TokensGive n tokens (Err e)
+unparsed n tokens (end.Refused refusal) h = inl (inl h)
+unparsed n tokens end.NoMemory h = tt
 
 -- what the tokens answer is what the text answers
 pub accepted : (text : List ℕ) (l tokens : List Token) (r : Result Report TextEnd) → l ≡ tokens → IsReading text (Ok tokens) → TokensGive (length text) l r → AcceptGives text r
 unfolding Reports HasRefusal
-accepted text l tokens (Ok report) e h g = record { tokens = tokens; read = h; reports = subst (λ x. ReportsTokens (length text) x report) e g }
-accepted text l tokens (Err (end.Refused refusal)) e h g =
-    inr (g.0, record { tokens = tokens; read = h; no_report = subst (λ x. (report : Report) → ReportsTokens (length text) x report → ⊥) e g.1 })
-accepted text l tokens (Err end.NoMemory) e h g = tt
+accepted text l tokens r e h g = by_answer r (subst (λ x. TokensGive (length text) x r) e g)
+  where
+    by_answer : (r : Result Report TextEnd) → TokensGive (length text) tokens r → AcceptGives text r
+    by_answer (Ok report) g = record { stmts = g.0; accepted = record { tokens = tokens; read = h; say = g.1 }; is_report = g.2 }
+    by_answer (Err (end.Refused refusal)) (inl g) = inl (inr (tokens, h, g))
+    by_answer (Err (end.Refused refusal)) (inr g) = inr (g.0, record { stmts = g.1; accepted = record { tokens = tokens; read = h; say = g.2 }; no_report = g.3 })
+    by_answer (Err end.NoMemory) g = tt
 
 -- a text whose tokens are refused is refused so
 pub refused : (text : List ℕ) (e : TextEnd) → LexGives text (Err e) → AcceptGives text (Err e)
 unfolding HasRefusal
-refused text (end.Refused refusal) h = inl h
+refused text (end.Refused refusal) h = inl (inl h)
 refused text end.NoMemory h = tt
 
 -- the report has a whole row
 pub whole : (n : ℕ) (tokens : List Token) (r : Result Report TextEnd) → TokensGive n tokens r → IfOk r IsWhole
-whole n tokens (Ok report) g = subst IsWhole (sym g.is_report.report_is) (row_whole g.is_report.outline g.is_report.rules)
+whole n tokens (Ok report) g = subst IsWhole (sym g.2.report_is) (row_whole g.2.outline g.2.rules)
 whole n tokens (Err e) g = tt
 
 -- the row tells the runs
 pub tells : (text : List ℕ) (l tokens : List Token) (r : Result Report TextEnd) → l ≡ tokens → IsReading text (Ok tokens) → TokensGive (length text) l r → IfOk r (TellsRuns text)
 unfolding TellsRuns
 tells text l tokens (Ok report) e h g =
-    let o = g.is_report.outline in (
+    let o = g.2.outline in (
       procedure_of o,
       record {
-        tokens = tokens;
-        read = h;
-        statements = g.statements;
-        say = subst (λ x. Say (length text) x g.statements) e g.say;
+        stmts = g.0;
+        accepted = record { tokens = tokens; read = h; say = subst (λ x. Say (length text) x g.0) e g.1 };
         outline = o;
-        spelt = g.is_report.spelt;
-        rules = g.is_report.rules;
+        spelt = g.2.spelt;
+        rules = g.2.rules;
         procedure_is = refl;
       },
-      subst (λ (q : Report). RowHolds (procedure_of o) q.row) (sym g.is_report.report_is) (row_holds o g.is_report.rules),
+      subst (λ (q : Report). RowHolds (procedure_of o) q.row) (sym g.2.report_is) (row_holds o g.2.rules),
     )
 tells text l tokens (Err x) e h g = tt
 
--- a text has one list of tokens, and then no refusal of them
-tokens_once : OneReading → (text : List ℕ) (x y : List Token) → IsReading text (Ok x) → IsReading text (Ok y) → x ≡ y
-tokens_once one text x y h k =
-    let same : ◌≡◌ {A = Result (List Token) Refusal} (Ok x) (Ok y) = one text (Ok x) (Ok y) h k in
-    cc
+module _ (lexed : OneReading) (parsed : OneParse) (matched : OneMatch) (ruled : rules.OneAnswer) where
+  -- a text has one list of tokens, and then no refusal of them
+  tokens_once : (text : List ℕ) (x y : List Token) → IsReading text (Ok x) → IsReading text (Ok y) → x ≡ y
+  tokens_once text x y h k =
+      let same : ◌≡◌ {A = Result (List Token) Refusal} (Ok x) (Ok y) = lexed text (Ok x) (Ok y) h k in
+      cc
 
-tokens_or_refusal : OneReading → (text : List ℕ) (x : List Token) (refusal : Refusal) → IsReading text (Ok x) → IsReading text (Err refusal) → ⊥
-tokens_or_refusal one text x refusal h k =
-    let same : ◌≡◌ {A = Result (List Token) Refusal} (Ok x) (Err refusal) = one text (Ok x) (Err refusal) h k in
-    cc
+  tokens_or_refusal : (text : List ℕ) (x : List Token) (refusal : Refusal) → IsReading text (Ok x) → IsReading text (Err refusal) → ⊥
+  tokens_or_refusal text x refusal h k =
+      let same : ◌≡◌ {A = Result (List Token) Refusal} (Ok x) (Err refusal) = lexed text (Ok x) (Err refusal) h k in
+      cc
 
-refusal_once : OneReading → (text : List ℕ) (a b : Refusal) → IsReading text (Err a) → IsReading text (Err b) → a ≡ b
-refusal_once one text a b h k =
-    let same : ◌≡◌ {A = Result (List Token) Refusal} (Err a) (Err b) = one text (Err a) (Err b) h k in
-    cc
+  reading_once : (text : List ℕ) (a b : Refusal) → IsReading text (Err a) → IsReading text (Err b) → a ≡ b
+  reading_once text a b h k =
+      let same : ◌≡◌ {A = Result (List Token) Refusal} (Err a) (Err b) = lexed text (Err a) (Err b) h k in
+      cc
 
-report_once : OneReading → OneParse → (text : List ℕ) (a b : Report) → ReportsText text a → ReportsText text b → a ≡ b
-report_once one other text a b x y =
-    let moved = subst (λ l. ReportsTokens (length text) l a) (tokens_once one text x.tokens y.tokens x.read y.read) x.reports in
-    let said_same = said_once other (length text) y.tokens moved.statements y.reports.statements moved.say y.reports.say in
-    report_one y.reports.statements a b (subst (λ l. IsReport l a) said_same moved.is_report) y.reports.is_report
+  -- tokens are one list of statements, or refused
+  stmts_once : (n : ℕ) (tokens : List Token) (x y : List Placed) → Parses n tokens (Ok x) → Parses n tokens (Ok y) → x ≡ y
+  stmts_once n tokens x y h k =
+      let same : ◌≡◌ {A = Result (List Placed) Refusal} (Ok x) (Ok y) = parsed n tokens (Ok x) (Ok y) h k in
+      cc
 
-report_or_refusal : OneReading → (text : List ℕ) (a : Report) (b : Refusal) → ReportsText text a → RefusesText text b → ⊥
-report_or_refusal one text a b x (inl h) = tokens_or_refusal one text x.tokens b x.read h
-report_or_refusal one text a b x (inr h) =
-    h.1.no_report a (subst (λ l. ReportsTokens (length text) l a) (tokens_once one text x.tokens h.1.tokens x.read h.1.read) x.reports)
+  stmts_or_refusal : (n : ℕ) (tokens : List Token) (x : List Placed) (refusal : Refusal) → Parses n tokens (Ok x) → Parses n tokens (Err refusal) → ⊥
+  stmts_or_refusal n tokens x refusal h k =
+      let same : ◌≡◌ {A = Result (List Placed) Refusal} (Ok x) (Err refusal) = parsed n tokens (Ok x) (Err refusal) h k in
+      cc
 
-one_refusal : OneReading → (text : List ℕ) (a b : Refusal) → RefusesText text a → RefusesText text b → a ≡ b
-one_refusal one text a b (inl h) (inl k) = refusal_once one text a b h k
-one_refusal one text a b (inl h) (inr k) = absurd (tokens_or_refusal one text k.1.tokens a k.1.read h)
-one_refusal one text a b (inr h) (inl k) = absurd (tokens_or_refusal one text h.1.tokens b h.1.read k)
-one_refusal one text a b (inr h) (inr k) = h.0 ∙ sym k.0
+  parse_once : (n : ℕ) (tokens : List Token) (a b : Refusal) → Parses n tokens (Err a) → Parses n tokens (Err b) → a ≡ b
+  parse_once n tokens a b h k =
+      let same : ◌≡◌ {A = Result (List Placed) Refusal} (Err a) (Err b) = parsed n tokens (Err a) (Err b) h k in
+      cc
 
--- no text has two answers
-pub answer_once : OneReading → OneParse → OneAnswer
-unfolding Reports HasRefusal
-answer_once one other text (Ok a) (Ok b) h k = ap Ok (report_once one other text a b h k)
-answer_once one other text (Ok a) (Err b) h k = absurd (report_or_refusal one text a b h k)
-answer_once one other text (Err a) (Ok b) h k = absurd (report_or_refusal one text b a k h)
-answer_once one other text (Err a) (Err b) h k = ap Err (one_refusal one text a b h k)
+  -- statements have no fault, or one first fault
+  match_or_refusal : (stmts : List Placed) (refusal : Refusal) → HasNoFault stmts → IsRefusedAt stmts refusal → ⊥
+  match_or_refusal stmts refusal h k =
+      let same : ◌≡◌ {A = Result (Unit {0}) Refusal} (Ok tt) (Err refusal) = matched stmts (Ok tt) (Err refusal) h k in
+      cc
+
+  match_once : (stmts : List Placed) (a b : Refusal) → IsRefusedAt stmts a → IsRefusedAt stmts b → a ≡ b
+  match_once stmts a b h k =
+      let same : ◌≡◌ {A = Result (Unit {0}) Refusal} (Err a) (Err b) = matched stmts (Err a) (Err b) h k in
+      cc
+
+  sound_or_refusal : (stmts : List Placed) (refusal : Refusal) → AreSound stmts → RefusesStatements stmts refusal → ⊥
+  sound_or_refusal stmts refusal s (inl h) = match_or_refusal stmts refusal s.matched h
+  sound_or_refusal stmts refusal s (inr h) =
+      let same : ◌≡◌ {A = Option Refusal} None (Some refusal) = ruled stmts None (Some refusal) s.kept h.1 in
+      cc
+
+  statements_once : (stmts : List Placed) (a b : Refusal) → RefusesStatements stmts a → RefusesStatements stmts b → a ≡ b
+  statements_once stmts a b (inl h) (inl k) = match_once stmts a b h k
+  statements_once stmts a b (inl h) (inr k) = absurd (match_or_refusal stmts a k.0 h)
+  statements_once stmts a b (inr h) (inl k) = absurd (match_or_refusal stmts b h.0 k)
+  statements_once stmts a b (inr h) (inr k) =
+      let same : ◌≡◌ {A = Option Refusal} (Some a) (Some b) = ruled stmts (Some a) (Some b) h.1 k.1 in
+      cc
+
+  said_or_refusal : (n : ℕ) (tokens : List Token) (stmts : List Placed) (refusal : Refusal) → Say n tokens stmts → RefusesTokens n tokens refusal → ⊥
+  said_or_refusal n tokens stmts refusal s (inl h) = stmts_or_refusal n tokens stmts refusal s.parsed h
+  said_or_refusal n tokens stmts refusal s (inr h) =
+      sound_or_refusal h.0 refusal (subst AreSound (stmts_once n tokens stmts h.0 s.parsed h.1) s.sound) h.2
+
+  refusal_of_tokens_once : (n : ℕ) (tokens : List Token) (a b : Refusal) → RefusesTokens n tokens a → RefusesTokens n tokens b → a ≡ b
+  refusal_of_tokens_once n tokens a b (inl h) (inl k) = parse_once n tokens a b h k
+  refusal_of_tokens_once n tokens a b (inl h) (inr k) = absurd (stmts_or_refusal n tokens k.0 a k.1 h)
+  refusal_of_tokens_once n tokens a b (inr h) (inl k) = absurd (stmts_or_refusal n tokens h.0 b h.1 k)
+  refusal_of_tokens_once n tokens a b (inr h) (inr k) =
+      statements_once k.0 a b (subst (λ x. RefusesStatements x a) (stmts_once n tokens h.0 k.0 h.1 k.1) h.2) k.2
+
+  -- a text is accepted with one list of statements, or has one first refusal
+  accepted_once : (text : List ℕ) (x y : List Placed) → IsAccepted text x → IsAccepted text y → x ≡ y
+  accepted_once text x y a b =
+      stmts_once (length text) b.tokens x y (subst (λ l. Parses (length text) l (Ok x)) (tokens_once text a.tokens b.tokens a.read b.read) a.say.parsed) b.say.parsed
+
+  accepted_or_refusal : (text : List ℕ) (stmts : List Placed) (refusal : Refusal) → IsAccepted text stmts → IsFirstRefusal text refusal → ⊥
+  accepted_or_refusal text stmts refusal a (inl h) = tokens_or_refusal text a.tokens refusal a.read h
+  accepted_or_refusal text stmts refusal a (inr h) =
+      said_or_refusal (length text) h.0 stmts refusal (subst (λ l. Say (length text) l stmts) (tokens_once text a.tokens h.0 a.read h.1) a.say) h.2
+
+  first_once : (text : List ℕ) (a b : Refusal) → IsFirstRefusal text a → IsFirstRefusal text b → a ≡ b
+  first_once text a b (inl h) (inl k) = reading_once text a b h k
+  first_once text a b (inl h) (inr k) = absurd (tokens_or_refusal text k.0 a k.1 h)
+  first_once text a b (inr h) (inl k) = absurd (tokens_or_refusal text h.0 b h.1 k)
+  first_once text a b (inr h) (inr k) =
+      refusal_of_tokens_once (length text) k.0 a b (subst (λ l. RefusesTokens (length text) l a) (tokens_once text h.0 k.0 h.1 k.1) h.2) k.2
+
+  report_once : (text : List ℕ) (a b : Report) → ReportsText text a → ReportsText text b → a ≡ b
+  report_once text a b x y =
+      report_one (said y.stmts) a b (subst (λ l. IsReport (said l) a) (accepted_once text x.stmts y.stmts x.accepted y.accepted) x.is_report) y.is_report
+
+  report_or_refusal : (text : List ℕ) (a : Report) (b : Refusal) → ReportsText text a → RefusesText text b → ⊥
+  report_or_refusal text a b x (inl h) = accepted_or_refusal text x.stmts b x.accepted h
+  report_or_refusal text a b x (inr h) =
+      h.1.no_report a (subst (λ l. IsReport (said l) a) (accepted_once text x.stmts h.1.stmts x.accepted h.1.accepted) x.is_report)
+
+  one_refusal : (text : List ℕ) (a b : Refusal) → RefusesText text a → RefusesText text b → a ≡ b
+  one_refusal text a b (inl h) (inl k) = first_once text a b h k
+  one_refusal text a b (inl h) (inr k) = absurd (accepted_or_refusal text k.1.stmts a k.1.accepted h)
+  one_refusal text a b (inr h) (inl k) = absurd (accepted_or_refusal text h.1.stmts b h.1.accepted k)
+  one_refusal text a b (inr h) (inr k) = h.0 ∙ sym k.0
+
+  -- no text has two answers
+  pub answer_once : OneAnswer
+  unfolding Reports HasRefusal
+  answer_once text (Ok a) (Ok b) h k = ap Ok (report_once text a b h k)
+  answer_once text (Ok a) (Err b) h k = absurd (report_or_refusal text a b h k)
+  answer_once text (Err a) (Ok b) h k = absurd (report_or_refusal text b a k h)
+  answer_once text (Err a) (Err b) h k = ap Err (one_refusal text a b h k)

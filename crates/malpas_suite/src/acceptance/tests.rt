@@ -1,6 +1,6 @@
 //! What no clause says: that the definitions mean straight procedures, and that a call succeeds.
 use super::accept;
-use il_core::{Code, TextEnd};
+use il_core::{Code, Many, TextEnd};
 use std::alloc::{AllocError, Global};
 use std::test::Fail;
 
@@ -52,7 +52,7 @@ fn texts(rt: HostRuntime) -> Result<(), Fail> {
             "IN as target",
             "IN a : 0 .. 9;IN b : 0 .. 9;",
             "a := b;",
-            Some(Code::NotBuilt),
+            Some(Code::Access),
         ),
         (
             "a target with a lower greatest value",
@@ -70,31 +70,31 @@ fn texts(rt: HostRuntime) -> Result<(), Fail> {
             "an unknown target",
             "IN b : 0 .. 9;",
             "a := b;",
-            Some(Code::NotBuilt),
+            Some(Code::Unknown),
         ),
         (
             "an unknown source",
             "OUT a : 0 .. 9;",
             "a := b;",
-            Some(Code::NotBuilt),
+            Some(Code::Unknown),
         ),
         (
             "a name declared twice",
             "OUT a : 0 .. 9;IN a : 0 .. 9;",
             "",
-            Some(Code::NotBuilt),
+            Some(Code::Twice),
         ),
         (
             "the procedure's name",
             "OUT p : 0 .. 9;",
             "",
-            Some(Code::NotBuilt),
+            Some(Code::Twice),
         ),
         (
             "an empty range",
             "OUT a : 9 .. 0;",
             "",
-            Some(Code::NotBuilt),
+            Some(Code::EmptyRange),
         ),
         (
             "a number assigned",
@@ -114,7 +114,32 @@ fn texts(rt: HostRuntime) -> Result<(), Fail> {
             "ENDPROC;PROC q;PRE TRUE;POST TRUE;",
             Some(Code::NotBuilt),
         ),
-        ("no form", "", "a :=;", Some(Code::NotBuilt)),
+        ("no form", "", "a :=;", Some(Code::Syntax)),
+        (
+            "a second postcondition",
+            "",
+            "POST TRUE;",
+            Some(Code::Order),
+        ),
+        ("a loose ENDIF", "", "ENDIF;", Some(Code::Unmatched)),
+        (
+            "a truth value for a number",
+            "OUT a : 0 .. 9;",
+            "a := a < 3;",
+            Some(Code::Typing),
+        ),
+        (
+            "OLD in an assignment",
+            "INOUT a : 0 .. 9;",
+            "a := OLD a;",
+            Some(Code::Access),
+        ),
+        (
+            "a wide product",
+            "OUT a : 0 .. 9;",
+            "a := a * 9223372036854775807 * 9223372036854775807;",
+            Some(Code::Wide),
+        ),
         ("no token", "", "#", Some(Code::Lexical)),
     ];
     for (what, variables, assignments, wanted) in cases {
@@ -128,8 +153,8 @@ fn texts(rt: HostRuntime) -> Result<(), Fail> {
 fn places(rt: HostRuntime) -> Result<(), Fail> {
     for (count, extra, wanted) in [
         (32, "", None),
-        (32, "IN a : 0 .. 1;", Some(Code::NotBuilt)),
-        (33, "", Some(Code::NotBuilt)),
+        (32, "IN a : 0 .. 1;", Some(Code::TooMany(Many::Places))),
+        (33, "", Some(Code::TooMany(Many::Places))),
     ] {
         let mut variables = String::from_str(rt.alloc(), extra)?;
         for number in 0..count {
