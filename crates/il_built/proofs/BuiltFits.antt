@@ -50,7 +50,7 @@ pub record IsKept (s : Setting) (x : Statement) : Type 0 where
   pub allowed : is_allowed s x ≡ true
   pub narrow : is_narrow s x ≡ true
 
-kept_unless : (b : Bool) (c : Code) → unless b c ≡ None → b ≡ true
+pub kept_unless : (b : Bool) (c : Code) → unless b c ≡ None → b ≡ true
 kept_unless true c h = refl
 kept_unless false c h = absurd (cc)
 

@@ -2,3 +2,4 @@ pub mod Entered
 pub mod BuiltSorts
 pub mod BuiltBounds
 pub mod BuiltFits
+pub mod BuiltRanges

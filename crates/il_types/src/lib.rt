@@ -1,5 +1,5 @@
 //! From statements to names, types and limits. A text whose statements stand in order is accepted where it keeps the rules of
-//! names, types, modes, ranges and limits; this layer answers that, or the first fault. The declarations are kept in one
+//! names, types, modes, ranges, bounds and limits; this layer answers that, or the first fault. The declarations are kept in one
 //! hash table in the order in which they stand, under scope and name, so the work is linear in the text but for the look-ups by name.
 #![tactic(auto)]
 

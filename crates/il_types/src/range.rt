@@ -129,13 +129,7 @@ pub fn range_of_use(
 }
 
 /// Whether a variable of the type that statement `at` of procedure `owner` uses holds truth values. One look-up by name.
-pub fn is_flag(
-    names: &Names,
-    stmts: &[Stmt],
-    owner: usize,
-    at: usize,
-    used: &TypeUse,
-) -> bool
+pub fn is_flag(names: &Names, stmts: &[Stmt], owner: usize, at: usize, used: &TypeUse) -> bool
     ensures { result ≡ is_flag (setting names.now (map placed stmts.now) owner at) used.now }
 {
     is_truth(kind_of_use(names, stmts, owner, at, used))
