@@ -1,6 +1,6 @@
 -- A test by which a graph that is written out is well formed.
-use Rattle.std.proofs.Common.{◌≡◌, ◌≢◌, ◌⊎◌, inl, inr, refl, sym, ap, ◌∙◌, ℕ, zero, suc, ◌+◌, ◌<◌, ◌≤◌, Bool, true, false, ltb, leb, eqb, List, [], ◌∷◌, length, arith, Option, None, Some, slice_get}
-use Rattle.std.specs.Prelude.{not, ◌&&◌, IsSome, IfSome}
+use Rattle.std.proofs.Common.{◌≡◌, inl, inr, refl, ℕ, zero, suc, ◌+◌, ◌≤◌, Bool, true, false, ltb, leb, eqb, List, [], ◌∷◌, length, arith, Option, None, Some, slice_get}
+use Rattle.std.specs.Prelude.{not, ◌&&◌}
 use Rattle.std.proofs.lemmas.Bool.{and_parts, ltb-true, leb-true, eqb-true, eqb-false}
 use Rattle.std.proofs.lemmas.Option.{same_Some, none-some}
 use Rattle.il_core.specs.LineGraph.{IsIn}
