@@ -8,7 +8,7 @@ use std::alloc::Global;
 
 /// What opened a block.
 #[derive(Clone, Copy, Debug, PartialEq, Eq)]
-pub(crate) enum Kind {
+pub enum Kind {
     /// PROC.
     Procedure,
     /// IF.
@@ -21,7 +21,7 @@ pub(crate) enum Kind {
 
 /// What closes a block.
 #[derive(Clone, Copy, Debug, PartialEq, Eq)]
-pub(crate) enum Closer {
+pub enum Closer {
     /// ELSE.
     ByElse,
     /// ENDIF.

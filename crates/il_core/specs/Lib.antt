@@ -9,5 +9,6 @@ pub mod Run
 pub mod Bounds
 pub mod Kind
 pub mod Checked
+pub mod Text
 pub mod LineGraph
 pub mod formers

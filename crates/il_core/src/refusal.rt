@@ -42,8 +42,6 @@ pub enum Code {
     Wide,
     /// Too many of something.
     TooMany(Many),
-    /// A text that this version accepts but does not report yet.
-    NotBuilt,
 }
 
 /// The refusal of a text: why, at which byte counted from 0, and for which name where one is told.

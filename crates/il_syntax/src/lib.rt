@@ -13,4 +13,5 @@ mod order;
 mod parsing;
 mod statement;
 
+pub use order::{Part, Stage};
 pub use parsing::{one_parse, parse};

@@ -6,7 +6,7 @@ use il_core::{Form, Stmt};
 
 /// The part of a text that a statement is.
 #[derive(Clone, Copy, Debug, PartialEq, Eq)]
-pub(crate) enum Part {
+pub enum Part {
     /// TITLE.
     Title,
     /// CONST and TYPE.
@@ -29,7 +29,7 @@ pub(crate) enum Part {
 
 /// What a text has come to.
 #[derive(Clone, Copy, Debug, PartialEq, Eq)]
-pub(crate) enum Stage {
+pub enum Stage {
     /// Its beginning: TITLE comes next.
     Start,
     /// Its constants and types, up to the first PROC.

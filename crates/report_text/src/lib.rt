@@ -102,10 +102,6 @@ mod tests {
                 refusal(Code::TooMany(Many::Places), 9, None),
                 b"malpas: E14 at byte 9: too many places\n",
             ),
-            (
-                refusal(Code::NotBuilt, 0, None),
-                b"malpas: E15 at byte 0: not built yet\n",
-            ),
         ];
         for (refusal, line) in cases.iter() {
             let mut sink = SureSink::new(rt.alloc(), 100)?;

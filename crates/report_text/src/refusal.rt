@@ -27,7 +27,6 @@ fn number_of(code: &Code) -> &[u8]
         Code::EmptyRange => b"12",
         Code::Wide => b"13",
         Code::TooMany(_) => b"14",
-        Code::NotBuilt => b"15",
     }
 }
 
@@ -59,7 +58,6 @@ fn words_of(code: &Code) -> &[u8]
         Code::EmptyRange => b"range is empty",
         Code::Wide => b"expression too wide",
         Code::TooMany(many) => words_of_many(many),
-        Code::NotBuilt => b"not built yet",
     }
 }
 
