@@ -1,47 +1,69 @@
--- The text of a report is its title, its procedure, the one row of its table with a line for each place that does not keep its own value, and the status.
-use Rattle.std.specs.Prelude.{◌≡◌, ℕ, ◌<◌, ◌==◌, Bool, List, [], ◌∷◌, ◌++◌, length, slice_get, codes, decimal, None, Some, if◌then◌else◌}
-use Rattle.std.specs.List.{All, concat, flat_map, range_with_len}
+-- The text of a report: its head, a part for each procedure with the sections that are selected, and its status.
+use Rattle.std.specs.Prelude.{ℕ, Bool, true, false, List, [], ◌++◌, codes, decimal, Option, None, Some, if◌then◌else◌}
+use Rattle.std.specs.List.{flat_map, list_all}
+use Rattle.control_flow.specs.declared.control.Shape.{Shape}
+use Rattle.control_flow.specs.declared.control.Shape.TheVariants.{Reducible, TwoEntries}
 use Rattle.il_core.specs.declared.line.Place.{Place}
+use Rattle.report_text.specs.declared.report.Analyses.{Analyses}
+use Rattle.report_text.specs.declared.report.ProcReport.{ProcReport}
 use Rattle.report_text.specs.declared.report.Report.{Report}
+use Rattle.report_text.specs.declared.report.Selection.{Selection}
+use Rattle.report_text.specs.Sections.{control_text, usage_text, flows_text, paths_text, row_text}
 
--- The row has one number for each place, and each is the number of a place.
-pub record IsWhole (report : Report) : Type 0 where
-  pub each : length report.row ≡ length report.places
-  pub within : All (λ source. source < length report.places) report.row
-
--- what stands before the name of a place: the mark of an OLD copy
-abbrev pub old_mark : Bool → List ℕ
-old_mark old = if old then codes "OLD " else []
-
--- a place by its name, an OLD copy with its mark
-abbrev pub place_text : Place → List ℕ
-place_text place = old_mark place.old ++ place.name
-
--- the place of a number
-abbrev pub place_at : List Place → ℕ → List ℕ
-place_at places at = elim (slice_get places at) [ None ↦ [] | Some place ↦ place_text place ]
-
--- the number of the place whose input value the place `at` has at the end
-abbrev pub source_at : List ℕ → ℕ → ℕ
-source_at row at = elim (slice_get row at) [ None ↦ at | Some source ↦ source ]
-
--- the line of a place that has the input value of the place `source`; none where that is its own
-unfoldable pub line_of : List Place → ℕ → ℕ → List ℕ
-line_of places at source = if at == source then [] else (place_at places at ++ codes " := " ++ place_at places source ++ codes "\n")
-
--- the line of the place of number `at`
-abbrev pub change_text : Report → ℕ → List ℕ
-change_text report at = line_of report.places at (source_at report.row at)
-
--- the lines of all places, in their order
-unfoldable pub changes_text : Report → List ℕ
-changes_text report = flat_map (change_text report) (range_with_len 0 (length report.row))
-
--- what stands before these lines
+-- the first two lines
 unfoldable pub head_text : Report → List ℕ
-head_text report = concat (codes "MALPAS PROFILE 1\nTITLE " ∷ report.title ∷ codes "\nPROCEDURE " ∷ report.name ∷ codes " LINES " ∷ decimal report.lines
-    ∷ codes "\nSEMANTIC\nREGION L0\nROW 1 PATH -\nSTOP END\n" ∷ [])
+head_text report = codes "MALPAS PROFILE " ++ decimal report.profile ++ codes "\nTITLE " ++ report.title ++ codes "\n"
 
--- the whole text; the status of a straight procedure is 0
-unfoldable pub report_text : Report → List ℕ
-report_text report = head_text report ++ changes_text report ++ codes "STATUS 0\n"
+-- a section that is selected
+abbrev pub chosen : Bool → List ℕ → List ℕ
+chosen selected text = if selected then text else []
+
+-- a section that is not given for an irreducible procedure
+abbrev pub not_reported : List ℕ
+not_reported = codes "NOT REPORTED IRREDUCIBLE\n"
+
+unfoldable pub usage_section : ProcReport → List ℕ
+usage_section p = elim p.analyses [ None ↦ codes "USE\n" ++ not_reported | Some a ↦ usage_text p.places a.usage ]
+
+unfoldable pub flow_section : ProcReport → List ℕ
+flow_section p = elim p.analyses [ None ↦ codes "FLOW\n" ++ not_reported | Some a ↦ flows_text p.places a.flows ]
+
+unfoldable pub paths_section : ProcReport → List ℕ
+paths_section p = elim p.analyses [ None ↦ codes "PATHS\n" ++ not_reported | Some a ↦ paths_text p.arcs a.paths ]
+
+-- the table, which stands for a straight procedure alone
+abbrev pub table_text : List Place → Option (List ℕ) → List ℕ
+table_text places None = []
+table_text places (Some row) = row_text places row
+
+unfoldable pub semantic_section : ProcReport → List ℕ
+semantic_section p = elim p.analyses [ None ↦ [] | Some a ↦ table_text p.places a.row ]
+
+-- the line of a procedure
+unfoldable pub title_text : ProcReport → List ℕ
+title_text p = codes "PROCEDURE " ++ p.name ++ codes " LINES " ++ decimal p.lines ++ codes "\n"
+
+-- the part of a procedure
+unfoldable pub part_text : Selection → ProcReport → List ℕ
+part_text selection p = title_text p ++ chosen selection.control (control_text p.control p.derivation) ++ chosen selection.usage (usage_section p)
+    ++ chosen selection.flow (flow_section p) ++ chosen selection.paths (paths_section p) ++ chosen selection.semantic (semantic_section p)
+
+-- the last line
+unfoldable pub end_text : ℕ → List ℕ
+end_text status = codes "STATUS " ++ decimal status ++ codes "\n"
+
+abbrev pub is_reducible : Shape → Bool
+is_reducible Reducible = true
+is_reducible (TwoEntries e) = false
+
+-- 0 exactly where every procedure is reducible, else 1
+abbrev pub status_of : Report → ℕ
+status_of report = if list_all (λ p. is_reducible p.control.shape) report.procs then 0 else 1
+
+-- all parts, one after the other
+abbrev pub parts_text : Selection → List ProcReport → List ℕ
+parts_text selection procs = flat_map (part_text selection) procs
+
+-- the whole text
+abbrev pub report_text : Selection → Report → List ℕ
+report_text selection report = head_text report ++ parts_text selection report.procs ++ end_text (status_of report)

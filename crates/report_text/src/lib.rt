@@ -1,8 +1,8 @@
-//! The text of what the suite answers. [`put_report`] writes the report of a straight procedure, [`put_refusal`] the
-//! one line of a refused text, and [`put_words`] the one line that answers words that are not understood. Each text is
-//! a definition of its own, a list of bytes made of pieces: fixed words, names, and numbers by their decimal text. A
-//! call sends the pieces to a sink one after the other. It takes no memory, costs time linear in the text, leaves what
-//! is settled as it was, and after a fault of the sink has written a prefix of the text.
+//! The text of what the suite answers. A report is a head, a part for each procedure and a line with the status;
+//! [`put_refusal`] writes the one line of a refused text, and [`put_words`] the one line that answers words that are not
+//! understood. Each text is a definition of its own, a list of bytes made of pieces: fixed words, names, and numbers by
+//! their decimal text. A call sends the pieces to a sink one after the other. It takes no memory, costs time linear in
+//! the text, leaves what is settled as it was, and after a fault of the sink has written a prefix of the text.
 #![tactic(auto)]
 
 mod pieces;
@@ -10,26 +10,14 @@ mod refusal;
 mod report;
 
 pub use refusal::{put_refusal, put_words};
-pub use report::{Report, put_report};
+pub use report::{Analyses, ProcReport, Report, Selection};
 
 #[cfg(test)]
 mod tests {
     use super::*;
-    use il_core::{Code, List, Many, Mode, Name, Place, Refusal};
+    use il_core::{Code, Many, Name, Refusal};
     use il_edge::SureSink;
     use std::test::Fail;
-
-    fn place(name: Name, mode: Mode, old: bool) -> Place {
-        Place {
-            name,
-            mode,
-            old,
-            flag: false,
-            wrap: false,
-            least: 0,
-            greatest: 9,
-        }
-    }
 
     fn refusal(code: Code, place: usize, name: Option<Name>) -> Refusal {
         Refusal { code, place, name }
@@ -37,7 +25,7 @@ mod tests {
 
     #[test]
     fn writes_the_refusals(rt: HostRuntime) -> Result<(), Fail> {
-        let cases: [(Refusal, &[u8]); 17] = [
+        let cases: [(Refusal, &[u8]); 16] = [
             (
                 refusal(Code::TooLong, 1_048_576, None),
                 b"malpas: E01 at byte 1048576: text too long\n",
@@ -108,27 +96,6 @@ mod tests {
             put_refusal(refusal, &mut sink)?;
             assert_eq!(rt; sink.held(), *line);
         }
-        Ok(())
-    }
-
-    #[test]
-    fn writes_a_report(rt: HostRuntime) -> Result<(), Fail> {
-        let a = place(Name::new(b"a").ok_or("name")?, Mode::Input, false);
-        let b = place(Name::new(b"b").ok_or("name")?, Mode::InOut, false);
-        let old = place(Name::new(b"b").ok_or("name")?, Mode::InOut, true);
-        let report = Report {
-            title: Name::new(b"copy").ok_or("name")?,
-            name: Name::new(b"p").ok_or("name")?,
-            places: List::from_vec(Vec::from_slice(rt.alloc(), &[a, b, old])?),
-            lines: 12,
-            row: List::from_vec(Vec::from_slice(rt.alloc(), &[0, 2, 2])?),
-        };
-        let mut sink = SureSink::new(rt.alloc(), 1000)?;
-        put_report(&report, &mut sink)?;
-        put_words(&mut sink)?;
-        let text =
-            b"MALPAS PROFILE 1\nTITLE copy\nPROCEDURE p LINES 12\nSEMANTIC\nREGION L0\nROW 1 PATH -\nSTOP END\nb := OLD b\nSTATUS 0\nmalpas: words not understood\n";
-        assert_eq!(rt; sink.held(), text.as_slice());
         Ok(())
     }
 }

@@ -1,119 +1,67 @@
-ghost use Rattle.std.specs.Prelude.{◌≡◌, ◌<◌, length, slice_get, Some};
-ghost use Rattle.il_edge.specs.Faults.{HasCause};
-ghost use Rattle.il_edge.specs.Known.{SameTold};
-ghost use Rattle.report_text.specs.Pieces.{Writes};
-ghost use Rattle.report_text.specs.Report.{IsWhole, old_mark, line_of, changes_text, head_text, report_text};
-
-use crate::pieces::put;
+use control_flow::Control;
+use data_use::UseRow;
+use flow_graph::Arc;
 use il_core::{List, Name, Place};
-use il_edge::{Failed, Sink};
-use itoa::Buffer;
+use info_flow::FlowRow;
+use interval_reduce::Derivation;
+use path_expr::PathReport;
 
-/// The report of a straight procedure: a table of one row, reached by every input.
+/// What is told of a reducible procedure alone.
+#[derive(Debug, Drop)]
+pub struct Analyses {
+    /// All paths from line 0 to the last line.
+    pub paths: PathReport,
+    /// How each variable is used, in the order of the places.
+    pub usage: List<UseRow>,
+    /// What the final value of each variable rests on, in the order of the places.
+    pub flows: List<FlowRow>,
+    /// For a straight procedure, for each place the number of the place whose first value it has at the end.
+    pub row: Option<List<usize>>,
+}
+
+/// The report of one procedure.
+#[derive(Debug, Drop)]
+pub struct ProcReport {
+    /// The procedure's name.
+    pub name: Name,
+    /// Its places: its variables, then the OLD copies of its INOUT variables.
+    pub places: List<Place>,
+    /// The number of its lines.
+    pub lines: usize,
+    /// The arcs of its graph, which are numbered from 1.
+    pub arcs: List<Arc>,
+    /// Its control structure.
+    pub control: Control,
+    /// Its reduction by intervals.
+    pub derivation: Derivation,
+    /// The other analyses, exactly where it is reducible.
+    pub analyses: Option<Analyses>,
+}
+
+/// The report of a text, or of its first procedures.
 #[derive(Debug, Drop)]
 pub struct Report {
+    /// The profile of the text, 1 or 2.
+    pub profile: u8,
     /// The title of the text.
     pub title: Name,
-    /// The name of the procedure.
-    pub name: Name,
-    /// The places of the procedure, in their order.
-    pub places: List<Place>,
-    /// The number of lines of the procedure.
-    pub lines: usize,
-    /// For each place, the number of the place whose input value it has at the end.
-    pub row: List<usize>,
+    /// The reports of its procedures, in their order.
+    pub procs: List<ProcReport>,
 }
 
-fn mark_of(place: &Place) -> &[u8]
-    ensures { result.now ≡ old_mark place.now.old }
-{
-    if place.old { b"OLD " } else { b"" }
-}
-
-#[tactic(auto, unfolding(crate::specs::Report::head_text))]
-fn put_head<K: Sink>(report: &Report, sink: &mut K) -> Result<(), Failed>
-    ensures text { Writes (K.held sink.old) (K.held sink.new) result (head_text report.now) }
-    ensures told { SameTold (K.held sink.old) (K.held sink.new) }
-    ensures settled { K.settled sink.new ≡ K.settled sink.old }
-    ensures cause { HasCause (K.faults sink.old) (K.faults sink.new) result }
-{
-    let mut lines = Buffer::new();
-    put(
-        sink,
-        &[
-            b"MALPAS PROFILE 1\nTITLE ",
-            report.title.as_bytes(),
-            b"\nPROCEDURE ",
-            report.name.as_bytes(),
-            b" LINES ",
-            lines.format(report.lines).as_bytes(),
-            b"\nSEMANTIC\nREGION L0\nROW 1 PATH -\nSTOP END\n",
-        ],
-    )
-}
-
-/// Writes the line of the place `at`, where it has another place's value.
-#[tactic(auto, unfolding(crate::specs::Report::line_of))]
-fn put_change<K: Sink>(
-    places: &[Place],
-    at: usize,
-    source: usize,
-    sink: &mut K,
-) -> Result<(), Failed>
-    requires at { at < length places.now }
-    requires source { source < length places.now }
-    ensures text { Writes (K.held sink.old) (K.held sink.new) result (line_of places.now at source) }
-    ensures told { SameTold (K.held sink.old) (K.held sink.new) }
-    ensures settled { K.settled sink.new ≡ K.settled sink.old }
-    ensures cause { HasCause (K.faults sink.old) (K.faults sink.new) result }
-{
-    if at == source {
-        return Ok(());
-    }
-    let place = &places[at];
-    let origin = &places[source];
-    put(
-        sink,
-        &[
-            mark_of(place),
-            place.name.as_bytes(),
-            b" := ",
-            mark_of(origin),
-            origin.name.as_bytes(),
-            b"\n",
-        ],
-    )
-}
-
-fn put_changes<K: Sink>(report: &Report, sink: &mut K) -> Result<(), Failed>
-    requires { IsWhole report.now }
-    ensures text { Writes (K.held sink.old) (K.held sink.new) result (changes_text report.now) }
-    ensures told { SameTold (K.held sink.old) (K.held sink.new) }
-    ensures settled { K.settled sink.new ≡ K.settled sink.old }
-    ensures cause { HasCause (K.faults sink.old) (K.faults sink.new) result }
-{
-    let places = report.places.as_slice();
-    for (at, source) in report.row.as_slice().iter().enumerate() {
-        match put_change(places, at, *source, sink) {
-            Ok(()) => {}
-            Err(failed) => return Err(failed),
-        }
-    }
-    Ok(())
-}
-
-/// Writes the text of a report. Condition: its row has one number for each place, and each is the number of a place.
-/// `Failed` comes only where the sink's count of faults rose in this call, and then a prefix of the text was written.
-/// It takes no memory and leaves what is settled as it was.
-#[tactic(auto, unfolding(crate::specs::Report::report_text))]
-pub fn put_report<K: Sink>(report: &Report, sink: &mut K) -> Result<(), Failed>
-    requires { IsWhole report.now }
-    ensures text { Writes (K.held sink.old) (K.held sink.new) result (report_text report.now) }
-    ensures told { SameTold (K.held sink.old) (K.held sink.new) }
-    ensures settled { K.settled sink.new ≡ K.settled sink.old }
-    ensures cause { HasCause (K.faults sink.old) (K.faults sink.new) result }
-{
-    put_head(report, sink)?;
-    put_changes(report, sink)?;
-    put(sink, &[b"STATUS 0\n"])
+/// The sections of a report that are to be written.
+#[derive(Clone, Copy, Debug, PartialEq, Eq)]
+pub struct Selection {
+    /// The control structure and its reduction.
+    pub control: bool,
+    /// The use of variables.
+    pub usage: bool,
+    /// The flow of information.
+    pub flow: bool,
+    /// The path expression.
+    pub paths: bool,
+    /// The symbolic table.
+    pub semantic: bool,
+    /// The compliance with the assertions.
+    pub compliance: bool,
 }

@@ -1,6 +1,0 @@
-use Rattle.report_text.specs.Report.{head_text}
-use Rattle.report_text.proofs.report.put_head.Goals as goal
-
-pub returns-clause-text : goal.returns-clause-text
-unfolding head_text
-returns-clause-text g c = rw (c.as_bytes.ensures.value, c.as_bytes-2.ensures.value, c.as_bytes-3.ensures.value, c.format.ensures.text) at c.put.ensures.text
