@@ -1,30 +1,20 @@
--- A text is accepted where its tokens are statements in order whose blocks and labels are matched and which break no rule; it is refused at
--- its first fault. Of the accepted texts those that are a straight procedure are reported; the others are told as not built.
-use Rattle.std.specs.Prelude.{◌≡◌, ℕ, ◌⊎◌, List, length, map, None, Some, Result, Ok, Err, MatchResult}
-use Rattle.il_core.specs.Procedure.{Procedure}
-use Rattle.il_core.specs.Statement.{Statement, Placed}
+-- A text is accepted where its tokens are statements in order whose blocks and labels are matched and which break no rule; it then has a checked
+-- text. It is refused at its first fault: each kind of fault is looked for over the whole text before the next.
+use Rattle.std.specs.Prelude.{◌≡◌, ℕ, ◌⊎◌, List, length, None, Some, Result, Ok, Err}
+use Rattle.il_core.specs.Checked.{NamedText}
+use Rattle.il_core.specs.Statement.{Placed}
+use Rattle.il_core.specs.Text.{Text, text_of}
 use Rattle.il_core.specs.declared.token.Token.{Token}
-use Rattle.il_core.specs.declared.refusal.Code.TheVariants as code
 use Rattle.il_core.specs.declared.refusal.Refusal.{Refusal}
 use Rattle.il_core.specs.declared.refusal.TextEnd.{TextEnd}
 use Rattle.il_core.specs.declared.refusal.TextEnd.TheVariants as end
+use Rattle.il_core.specs.declared.statement.Link.{Link}
 use Rattle.il_lexer.specs.Reading.{IsReading}
 use Rattle.il_syntax.specs.Parse.{Parses}
 use Rattle.il_blocks.specs.BlockFault.{HasNoFault, IsRefusedAt}
+use Rattle.il_blocks.specs.BlockLink.{AreLinks}
 use Rattle.il_types.specs.Rules as rules
-use Rattle.report_text.specs.declared.report.Report.{Report}
-use Rattle.malpas_suite.specs.Straight.{KeepsRules, IsReport, spelling}
-use Rattle.malpas_suite.specs.Copies.{procedure_of, RowHolds}
-use Rattle.malpas_suite.specs.declared.straight.Outline.{Outline}
-
--- what statements say, without their places
-abbrev pub said : List Placed → List Statement
-said stmts = map (λ s. s.says) stmts
-
--- statements without a fault: blocks and labels are matched, and no rule of names, types, modes, ranges, bounds and limits is broken
-pub record AreSound (stmts : List Placed) : Type 0 where
-  pub matched : HasNoFault stmts
-  pub kept : rules.Answers stmts None
+use Rattle.il_built.specs.CheckedText.{checked_text}
 
 -- the refusal of statements: the first of blocks and labels, else the first of the rules
 abbrev pub RefusesStatements : List Placed → Refusal → Type 0
@@ -40,86 +30,54 @@ abbrev pub IsFirstRefusal : List ℕ → Refusal → Type 0
 IsFirstRefusal text refusal =
     IsReading text (Err refusal) ⊎ ((tokens : List Token) × IsReading text (Ok tokens) × RefusesTokens (length text) tokens refusal)
 
--- the tokens are statements in order without a fault
-pub record Say (text_len : ℕ) (tokens : List Token) (stmts : List Placed) : Type 0 where
-  pub parsed : Parses text_len tokens (Ok stmts)
-  pub sound : AreSound stmts
+-- statements without a fault, with their links and their checked text
+pub record AreAccepted (stmts : List Placed) (t : Text) : Type 0 where
+  pub links : List Link
+  pub linked : AreLinks stmts links
+  pub kept : rules.Answers stmts None
+  pub text_is : t ≡ checked_text stmts links
 
--- the text is accepted, with these statements
-pub record IsAccepted (text : List ℕ) (stmts : List Placed) : Type 0 where
+-- tokens that are statements without a fault
+pub record Say (text_len : ℕ) (tokens : List Token) (t : Text) : Type 0 where
+  pub stmts : List Placed
+  pub parsed : Parses text_len tokens (Ok stmts)
+  pub accepted : AreAccepted stmts t
+
+-- the text is accepted, and this is its checked text
+pub record IsAccepted (text : List ℕ) (t : Text) : Type 0 where
   pub tokens : List Token
   pub read : IsReading text (Ok tokens)
-  pub say : Say (length text) tokens stmts
+  pub say : Say (length text) tokens t
 
--- the text is accepted and a straight procedure with this report
-pub record ReportsText (text : List ℕ) (report : Report) : Type 0 where
-  pub stmts : List Placed
-  pub accepted : IsAccepted text stmts
-  pub is_report : IsReport (said stmts) report
-
-abbrev pub not_built : Refusal
-not_built = record { code = code.NotBuilt; place = 0; name = None }
-
--- statements that are no straight procedure
-abbrev pub HaveNoReport : List Placed → Type 0
-HaveNoReport stmts = (report : Report) → IsReport (said stmts) report → ⊥
-
--- the text is accepted, and no straight procedure
-pub record IsNotBuilt (text : List ℕ) : Type 0 where
-  pub stmts : List Placed
-  pub accepted : IsAccepted text stmts
-  pub no_report : HaveNoReport stmts
-
--- the first refusal of the text; where there is none, it is refused as not built
-abbrev pub RefusesText : List ℕ → Refusal → Type 0
-RefusesText text refusal = IsFirstRefusal text refusal ⊎ ((refusal ≡ not_built) × IsNotBuilt text)
-
-unfoldable pub Reports : List ℕ → Report → Type 0
-Reports text report = ReportsText text report
+unfoldable pub Accepts : List ℕ → Text → Type 0
+Accepts text t = IsAccepted text t
 
 unfoldable pub HasRefusal : List ℕ → Refusal → Type 0
-HasRefusal text refusal = RefusesText text refusal
+HasRefusal text refusal = IsFirstRefusal text refusal
 
 -- the one answer to a text
-abbrev pub Answers : List ℕ → Result Report Refusal → Type 0
-Answers text (Ok report) = Reports text report
+abbrev pub Answers : List ℕ → Result Text Refusal → Type 0
+Answers text (Ok t) = Accepts text t
 Answers text (Err refusal) = HasRefusal text refusal
 
--- the end of a text: its refusal, or want of memory, which is free
-abbrev pub EndsText : List ℕ → TextEnd → Type 0
-EndsText text (end.Refused refusal) = HasRefusal text refusal
-EndsText text end.NoMemory = Unit {0}
-
--- what is answered belongs to the text
-abbrev pub AcceptGives : List ℕ → Result Report TextEnd → Type 0
-AcceptGives text result = MatchResult result (Reports text) (EndsText text)
-
--- no text has two answers: no two reports, no report and a refusal, no two refusals
+-- no text has two answers: no two checked texts, no checked text and a refusal, no two refusals
 abbrev pub OneAnswer : Type 0
-OneAnswer = (text : List ℕ) (a b : Result Report Refusal) → Answers text a → Answers text b → a ≡ b
+OneAnswer = (text : List ℕ) (a b : Result Text Refusal) → Answers text a → Answers text b → a ≡ b
 
--- the procedure of the line machine that a straight text is
-pub record IsProcedureOf (text : List ℕ) (p : Procedure) : Type 0 where
-  pub stmts : List Placed
-  pub accepted : IsAccepted text stmts
-  pub outline : Outline
-  pub spelt : said stmts ≡ spelling outline
-  pub rules : KeepsRules outline
-  pub procedure_is : p ≡ procedure_of outline
-
--- stepping the procedure of the text from an initial state ends, and the row of the report then tells each place's value
-unfoldable pub TellsRuns : List ℕ → Report → Type 0
-TellsRuns text report = (p : Procedure) × IsProcedureOf text p × RowHolds p report.row
+-- what is answered belongs to the text; want of memory is free
+abbrev pub AcceptGives : List ℕ → Result NamedText TextEnd → Type 0
+AcceptGives text (Ok t) = Accepts text (text_of t)
+AcceptGives text (Err (end.Refused refusal)) = HasRefusal text refusal
+AcceptGives text (Err end.NoMemory) = Unit {0}
 
 -- what statements answer
-abbrev pub StatementsGive : List Placed → Result Report TextEnd → Type 0
-StatementsGive stmts (Ok report) = AreSound stmts × IsReport (said stmts) report
-StatementsGive stmts (Err (end.Refused refusal)) = RefusesStatements stmts refusal ⊎ ((refusal ≡ not_built) × AreSound stmts × HaveNoReport stmts)
+abbrev pub StatementsGive : List Placed → Result NamedText TextEnd → Type 0
+StatementsGive stmts (Ok t) = AreAccepted stmts (text_of t)
+StatementsGive stmts (Err (end.Refused refusal)) = RefusesStatements stmts refusal
 StatementsGive stmts (Err end.NoMemory) = Unit {0}
 
--- what the tokens answer
-abbrev pub TokensGive : ℕ → List Token → Result Report TextEnd → Type 0
-TokensGive text_len tokens (Ok report) = (stmts : List Placed) × Say text_len tokens stmts × IsReport (said stmts) report
-TokensGive text_len tokens (Err (end.Refused refusal)) =
-    RefusesTokens text_len tokens refusal ⊎ ((refusal ≡ not_built) × (stmts : List Placed) × Say text_len tokens stmts × HaveNoReport stmts)
+-- what tokens answer
+abbrev pub TokensGive : ℕ → List Token → Result NamedText TextEnd → Type 0
+TokensGive text_len tokens (Ok t) = Say text_len tokens (text_of t)
+TokensGive text_len tokens (Err (end.Refused refusal)) = RefusesTokens text_len tokens refusal
 TokensGive text_len tokens (Err end.NoMemory) = Unit {0}

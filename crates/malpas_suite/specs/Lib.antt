@@ -1,3 +1,1 @@
-pub mod Straight
-pub mod Copies
 pub mod Acceptance

@@ -1,9 +1,0 @@
-use Rattle.std.proofs.Common.{◌≡◌, ◌++◌, map, length}
-use Rattle.malpas_suite.specs.Straight.{statements_of, assigned}
-use Rattle.malpas_suite.proofs.straight.assignments_in.Given as goal
-
-abbrev pub invariant-loop-stmt : goal.invariant-loop-stmt
-invariant-loop-stmt l = statements_of l.initial.rest ≡ map assigned l.assignments ++ statements_of l.rest
-
-abbrev pub decreases-loop-stmt : goal.decreases-loop-stmt
-decreases-loop-stmt l = length l.rest
