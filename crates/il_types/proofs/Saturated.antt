@@ -1,6 +1,6 @@
 -- Bounds that were cut at the ends of a machine number are small exactly where the exact ones are, and equal then.
-use Rattle.std.proofs.Common.{◌≡◌, ℕ, suc, ◌-◌, ◌^◌, ◌<◌, ◌≤◌, ◌∙◌, sym, ap, refl, inl, inr, Bool, true, false, ◌&&◌, arith, min, ℤ, pos, negsuc, ◌*ℤ◌, if◌then◌else◌}
-use Rattle.std.specs.Prelude.{Option, Some, None, nat_le, int_lt, unsigned_abs}
+use Rattle.std.proofs.Common.{◌≡◌, ℕ, suc, ◌-◌, ◌^◌, ◌<◌, ◌∙◌, sym, ap, refl, inl, inr, Bool, true, false, ◌&&◌, arith, min, ℤ, pos, negsuc, ◌*ℤ◌, if◌then◌else◌}
+use Rattle.std.specs.Prelude.{Option, Some, None, nat_le}
 use Rattle.std.specs.Int.{int_min, int_max, saturate_to_bits}
 use Rattle.std.proofs.lemmas.Bool.{cases_lt}
 use Rattle.std.proofs.lemmas.Int.{ints, clamps}

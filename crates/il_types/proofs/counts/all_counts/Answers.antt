@@ -1,4 +1,4 @@
-use Rattle.std.proofs.Common.{◌≡◌, ◌∙◌, ◌++◌, ◌∷◌, [], ◌<◌, ◌+◌, ℕ, sym, ap, subst, length, arith}
+use Rattle.std.proofs.Common.{◌≡◌, ◌∙◌, ◌<◌, ◌+◌, ℕ, sym, ap, subst, length}
 use Rattle.std.specs.Prelude.{map, Some, slice_get}
 use Rattle.std.proofs.lemmas.List.{length_push}
 use Rattle.il_core.specs.Statement.{placed}

@@ -1,5 +1,5 @@
 use Rattle.std.proofs.Common.{◌≡◌, ◌∙◌, arith, ℤ, ◌*ℤ◌, to_z, of_z}
-use Rattle.std.specs.Int.{w128, int_min, int_max}
+use Rattle.std.specs.Int.{w128}
 use Rattle.std.proofs.lemmas.Int.{ints}
 use Rattle.il_types.proofs.Saturated.{cut, cut_product, from_four}
 use Rattle.il_types.proofs.bounds.Bounds.product.Goals as goal
