@@ -10,5 +10,7 @@ pub mod Held
 pub mod Store
 pub mod Literal
 pub mod Linear
+pub mod FormText
+pub mod WorkedTexts
 pub mod Known
 pub mod Laws

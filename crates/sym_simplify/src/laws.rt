@@ -1,5 +1,6 @@
 //! Laws of normal terms, as contracts of functions that do nothing.
 ghost use Rattle.sym_simplify.specs.Laws.{ConstantsAreSums, CoefficientsAreSums, NormalTermsAreNormal, NormalTermsAreUnique, IsExactOrder, NormalTermsKeepValues, WeightsBoundNormalTerms};
+ghost use Rattle.sym_simplify.specs.WorkedTexts.{WorkedTexts};
 
 /// The constant of a term's normal term is the sum of the numbers among the term's summands.
 pub fn constants_are_sums()
@@ -35,4 +36,9 @@ pub fn normal_terms_keep_values()
 /// The coefficients and the constant of a normal term are together at most the term's weight, in absolute value.
 pub fn weights_bound_normal_terms()
     ensures { WeightsBoundNormalTerms }
+{}
+
+/// Some normal terms and literals have the texts that are worked out by hand for them.
+pub fn worked_texts()
+    ensures { WorkedTexts }
 {}

@@ -26,7 +26,7 @@ mod table;
 pub use forms::Forms;
 pub use laws::{
     coefficients_are_sums, constants_are_sums, normal_terms_are_normal, normal_terms_are_unique,
-    normal_terms_keep_values, orders_are_exact, weights_bound_normal_terms,
+    normal_terms_keep_values, orders_are_exact, weights_bound_normal_terms, worked_texts,
 };
 pub use node::{FormAtom, FormId, FormNode, FormPart};
 pub use normal::{Atom, Kept, LinearPart, LinearTerm, LitForm, Normal, Part};
