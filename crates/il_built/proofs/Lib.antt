@@ -3,3 +3,4 @@ pub mod BuiltSorts
 pub mod BuiltBounds
 pub mod BuiltFits
 pub mod BuiltRanges
+pub mod VariablesCounted
