@@ -4,3 +4,5 @@ pub mod BuiltBounds
 pub mod BuiltFits
 pub mod BuiltRanges
 pub mod VariablesCounted
+pub mod WithoutFault
+pub mod CheckedPlaces

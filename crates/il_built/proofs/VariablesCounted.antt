@@ -150,3 +150,23 @@ variables_counted stmts owner zero h = record { before = λ lt. refl; variables 
 variables_counted stmts owner (suc i) h =
     let x = stands stmts i (omega arith) in
     variables_next stmts owner i x.0 x.1 (variables_counted stmts owner i (omega arith))
+
+-- a statement behind which another procedure stands, or one that declares no variable, adds none
+pub none_here : (stmts : List Placed) (owner i : ℕ) (x : Placed) → slice_get stmts i ≡ Some x
+    → ((counts_at stmts (suc i)).procedures ≢ owner) ⊎ (declared_place (setting_at stmts i) x.says ≡ []) → variables_to stmts owner (suc i) ≡ variables_to stmts owner i
+none_here stmts owner i x there h =
+    let give = λ (k : ℕ) (y : Statement). declared_place (setting_at stmts k) y in
+    let before = variables_to stmts owner i in
+    let c = counts_at stmts i in
+    let own : c.procedures ≡ owner → declared_place (setting_at stmts i) x.says ≡ [] = λ e. elim h [
+      | inr none ↦ none
+      | inl other ↦ elim (counted c (setting_at stmts i) x.says) [
+        | inl o ↦ o.none
+        | inr k ↦ absurd (other (ap (λ (d : Counts). d.procedures) (counts_next stmts i x there) ∙ k.procedures ∙ e))
+      ]
+    ] in
+    let nothing : of_procedure give stmts owner i ≡ [] = elim (cases_eq c.procedures owner) [
+      | inl e ↦ given_here give stmts owner i x there e ∙ own e
+      | inr other ↦ not_given give stmts owner i x there other
+    ] in
+    given_next give stmts owner i ∙ ap (λ xs. before ++ xs) nothing ∙ append-nil before
