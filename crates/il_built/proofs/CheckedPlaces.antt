@@ -94,3 +94,30 @@ places_ranges stmts owner a k place there =
   where
     same : (p : Place) → HasRange p → HasRange (old_copy p)
     same p r = record { ordered = r.ordered; bits = r.bits }
+
+-- a filter that keeps all, and one that keeps nothing
+all_kept : {A : Type 0} (test : A → Bool) (xs : List A) → All (λ x. test x ≡ true) xs → filter test xs ≡ xs
+all_kept test [] h = refl
+all_kept test (x ∷ xs) h =
+    ap (λ b. cond b (x ∷ filter test xs) (filter test xs)) (All-head (λ y. test y ≡ true) x xs h)
+    ∙ ap (λ ys. x ∷ ys) (all_kept test xs (All-tail (λ y. test y ≡ true) x xs h))
+
+none_kept : {A : Type 0} (test : A → Bool) (xs : List A) → All (λ x. test x ≡ false) xs → filter test xs ≡ []
+none_kept test [] h = refl
+none_kept test (x ∷ xs) h =
+    ap (λ b. cond b (x ∷ filter test xs) (filter test xs)) (All-head (λ y. test y ≡ false) x xs h)
+    ∙ none_kept test xs (All-tail (λ y. test y ≡ false) x xs h)
+
+-- the variables are the places that are no OLD copies
+variables_are : (stmts : List Placed) (owner : ℕ) → filter is_variable (places_of stmts owner) ≡ variables_of stmts owner
+variables_are stmts owner =
+    let vs = variables_of stmts owner in
+    let copies = filter is_copied vs in
+    let plain : All (λ p. is_variable p ≡ true) vs = each_to (λ p. is_variable p ≡ true) stmts owner (length stmts) (omega arith) (λ i m name used d. refl) in
+    let old : All (λ p. is_variable p ≡ false) (map old_copy copies) =
+    All-map (λ p. is_variable p ≡ false) old_copy copies (λ k p h. refl) in
+    filter-append is_variable vs (map old_copy copies) ∙ ap (λ ps. ps ++ filter is_variable (map old_copy copies)) (all_kept is_variable vs plain)
+    ∙ ap (λ ps. vs ++ ps) (none_kept is_variable (map old_copy copies) old) ∙ append-nil vs
+
+pub places_in_order : (stmts : List Placed) (owner : ℕ) → AreInOrder (places_of stmts owner)
+places_in_order stmts owner = ap with_copies (sym (variables_are stmts owner))
