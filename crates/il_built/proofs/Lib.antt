@@ -6,3 +6,4 @@ pub mod BuiltRanges
 pub mod VariablesCounted
 pub mod WithoutFault
 pub mod CheckedPlaces
+pub mod PlacesHold

@@ -1,8 +1,8 @@
 -- The variables of a procedure in front of a statement of it are as many as the counts say, and so are the INOUT ones among them.
-use Rattle.std.proofs.Common.{◌≡◌, ◌≢◌, ℕ, zero, suc, ◌+◌, ◌<◌, ◌≤◌, ◌∙◌, sym, ap, subst, refl, inl, inr, ◌⊎◌, true, false, List, [], ◌∷◌, ◌++◌, length, arith, nat_eq, if◌then◌else◌, append-nil}
+use Rattle.std.proofs.Common.{◌≡◌, ◌≢◌, ℕ, zero, suc, ◌+◌, ◌<◌, ◌≤◌, ◌∙◌, sym, ap, subst, refl, inl, inr, ◌⊎◌, true, false, List, [], ◌∷◌, ◌++◌, length, arith, nat_eq, if◌then◌else◌, append-nil, append_assoc}
 use Rattle.std.specs.Prelude.{Some, None, slice_get, filter}
 use Rattle.std.specs.List.{flat_map, range_with_len}
-use Rattle.std.proofs.lemmas.Bool.{cases_eq}
+use Rattle.std.proofs.lemmas.Bool.{cases_eq, cases_lt}
 use Rattle.std.proofs.lemmas.List.{length-append}
 use Rattle.std.proofs.lemmas.List.Concat.{flat_map-append}
 use Rattle.std.proofs.lemmas.List.Elements.{filter-append}
@@ -72,6 +72,19 @@ not_given give stmts owner i x there other =
   where
     differs : (a b : ℕ) → a ≢ b → nat_eq a b ≡ false
     differs a b h = grind arith
+
+-- what the first statements give is the front of what more of them give
+pub given_front : {A : Type 0} (give : ℕ → Statement → List A) (stmts : List Placed) (owner i n : ℕ) → i ≤ n
+    → (rest : List A) × (given_by give stmts owner n ≡ given_by give stmts owner i ++ rest)
+given_front give stmts owner i zero h =
+    let e : 0 ≡ i = omega arith in ([], ap (given_by give stmts owner) e ∙ sym (append-nil (given_by give stmts owner i)))
+given_front give stmts owner i (suc n) h = elim (cases_lt n i) [
+  | inl lt ↦ let e : suc n ≡ i = omega arith in ([], ap (given_by give stmts owner) e ∙ sym (append-nil (given_by give stmts owner i)))
+  | inr le ↦
+      let front = given_front give stmts owner i n le in
+      let last = of_procedure give stmts owner n in
+      (front.0 ++ last, given_next give stmts owner n ∙ ap (λ xs. xs ++ last) front.1 ∙ append_assoc (given_by give stmts owner i) front.0 last)
+]
 
 -- a statement that begins a procedure declares no variable
 record IsOpening (c behind : Counts) (ps : List Place) : Type 0 where
