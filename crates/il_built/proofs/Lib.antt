@@ -4,6 +4,8 @@ pub mod BuiltBounds
 pub mod BuiltFits
 pub mod BuiltRanges
 pub mod VariablesCounted
+pub mod VariablesFirst
 pub mod WithoutFault
 pub mod CheckedPlaces
 pub mod PlacesHold
+pub mod CheckedExpressions
