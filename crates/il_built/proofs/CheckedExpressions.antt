@@ -1,6 +1,6 @@
 -- In a text in order without a fault, what is built of the conditions and assignments of a procedure is sound over its places.
-use Rattle.std.proofs.Common.{◌≡◌, ℕ, ◌∙◌, sym, ap, subst, refl, true, List}
-use Rattle.std.specs.Prelude.{Option, Some, None, slice_get, length}
+use Rattle.std.proofs.Common.{◌≡◌, ℕ, ap, subst, refl, true, List}
+use Rattle.std.specs.Prelude.{Option, Some, None, slice_get}
 use Rattle.il_core.specs.Checked.{IsSoundCondition, IsSoundAssignment}
 use Rattle.il_core.specs.Statement.{Statement, Placed, pre, post, assign, if_true, exit_when, assert}
 use Rattle.il_core.specs.Tree.{Tree}
@@ -10,7 +10,7 @@ use Rattle.il_types.specs.declared.rules.Rule.TheVariants as rule
 use Rattle.il_types.specs.Built.{assigned_place, built}
 use Rattle.il_types.specs.Names.{Setting, front_of, counts_at}
 use Rattle.il_types.specs.Rules.{broken, Answers}
-use Rattle.il_built.specs.CheckedText.{places_of, variables_of}
+use Rattle.il_built.specs.CheckedText.{places_of}
 use Rattle.il_built.specs.Holding.{setting_at, Holds}
 use Rattle.il_built.proofs.BuiltFits.{IsKept, keeps, reads_of, pre_fits, post_fits, if_true_fits, exit_when_fits, assert_fits, assign_fits}
 use Rattle.il_built.proofs.BuiltRanges.{nowhere_at}

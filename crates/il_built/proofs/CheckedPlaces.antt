@@ -1,35 +1,26 @@
 -- The places of a procedure of a text without a fault: there are few, each has a range, the OLD copies stand behind the variables, and
 -- each variable and each copy has the place that the counts say.
-use Rattle.std.proofs.Common.{◌≡◌, ◌≢◌, ℕ, zero, suc, ◌+◌, ◌<◌, ◌≤◌, ◌∙◌, sym, ap, subst, refl, inl, inr, ◌⊎◌, Bool, true, false, List, [], ◌∷◌, ◌++◌, length, arith, nat_eq, if◌then◌else◌, append-nil, append_assoc, get_or, cond}
-use Rattle.std.specs.Prelude.{Option, Some, None, slice_get, filter, map, nat_lt}
+use Rattle.std.proofs.Common.{◌≡◌, ℕ, zero, suc, ◌+◌, ◌≤◌, ◌∙◌, sym, ap, subst, refl, inl, inr, Bool, true, false, List, [], ◌∷◌, ◌++◌, length, arith, append-nil, cond}
+use Rattle.std.specs.Prelude.{Some, None, slice_get, filter, map}
 use Rattle.std.specs.List.{All}
-use Rattle.std.specs.Option.{option_map}
 use Rattle.std.proofs.lemmas.Bool.{cases_eq}
 use Rattle.std.proofs.lemmas.List.{length-append, length-map}
 use Rattle.std.proofs.lemmas.List.Elements.{filter-append, All-nil, All-cons, All-append, All-filter, All-map, All-weaker, All-same, All-get_or, All-tail, All-head}
-use Rattle.std.proofs.lemmas.Option.{slice_get-map, get_or_from_slice_get, slice_get_within}
+use Rattle.std.proofs.lemmas.Option.{get_or_from_slice_get, slice_get_within}
 use Rattle.il_core.specs.Checked.{is_copied, old_copy, HasRange, AreInOrder}
-use Rattle.il_core.specs.Run.{is_variable, is_inout}
-use Rattle.il_core.specs.Statement.{Statement, Placed, procedure, variable}
+use Rattle.il_core.specs.Run.{is_variable}
+use Rattle.il_core.specs.Statement.{Statement, Placed, variable}
 use Rattle.il_core.specs.declared.line.Place.{Place}
-use Rattle.il_core.specs.declared.refusal.Code.{Code}
-use Rattle.il_core.specs.declared.refusal.Code.TheVariants as code
-use Rattle.il_core.specs.declared.refusal.Many.{Many}
-use Rattle.il_core.specs.declared.refusal.Many.TheVariants as many
 use Rattle.il_core.specs.declared.statement.Mode.{Mode}
 use Rattle.il_core.specs.declared.statement.TypeUse.{TypeUse}
-use Rattle.il_types.specs.declared.counts.Counts.{Counts}
-use Rattle.il_types.specs.declared.rules.Found.{Found}
-use Rattle.il_types.specs.declared.rules.Rule.TheVariants as rule
 use Rattle.il_types.specs.Built.{place_of}
-use Rattle.il_types.specs.Counts.{counts_behind, too_many}
-use Rattle.il_types.specs.Names.{Setting, front_of, counts_at}
-use Rattle.il_types.specs.Rules.{unnamed, broken, ComesNowhere, Answers}
+use Rattle.il_types.specs.Names.{counts_at}
+use Rattle.il_types.specs.Rules.{Answers}
 use Rattle.il_built.specs.CheckedText.{of_procedure, declared_place, variables_of, with_copies, places_of}
-use Rattle.il_built.specs.Holding.{setting_at, Declares, Holds}
-use Rattle.il_built.proofs.BuiltRanges.{nowhere_at, place_has_range}
+use Rattle.il_built.specs.Holding.{setting_at, Declares}
+use Rattle.il_built.proofs.BuiltRanges.{place_has_range}
 use Rattle.il_built.proofs.WithoutFault.{KeepsRules, keeps_rules, limited_at}
-use Rattle.il_built.proofs.VariablesCounted.{stands, counts_next, given_next, given_here, not_given, variables_to, variables_counted, none_here}
+use Rattle.il_built.proofs.VariablesCounted.{stands, given_next, given_here, not_given, variables_to, variables_counted, none_here}
 
 -- the variables among the first statements, with their copies, are few
 few_to : (stmts : List Placed) (owner i : ℕ) → KeepsRules stmts → i ≤ length stmts

@@ -1,18 +1,17 @@
 -- The places of a procedure give each of its variables its place, and each INOUT one its OLD copy.
-use Rattle.std.proofs.Common.{◌≡◌, ℕ, zero, suc, ◌+◌, ◌≤◌, ◌∙◌, sym, ap, subst, refl, true, List, [], ◌∷◌, ◌++◌, length, arith, append_assoc, cond}
+use Rattle.std.proofs.Common.{◌≡◌, ℕ, zero, suc, ◌+◌, ◌≤◌, ◌∙◌, ap, refl, true, List, [], ◌∷◌, ◌++◌, length, arith, append_assoc, cond}
 use Rattle.std.specs.Prelude.{Some, slice_get, filter, map}
 use Rattle.std.specs.Option.{option_map}
 use Rattle.std.proofs.lemmas.List.Elements.{filter-append}
 use Rattle.std.proofs.lemmas.Option.{slice_get-map, slice_get_within}
 use Rattle.il_core.specs.Checked.{is_copied, old_copy}
-use Rattle.il_core.specs.Run.{is_inout}
 use Rattle.il_core.specs.Statement.{Statement, Placed, variable}
 use Rattle.il_core.specs.declared.line.Place.{Place}
 use Rattle.il_core.specs.declared.statement.Mode.{Mode}
 use Rattle.il_core.specs.declared.statement.TypeUse.{TypeUse}
 use Rattle.il_types.specs.Built.{place_of}
 use Rattle.il_types.specs.Names.{counts_at}
-use Rattle.il_built.specs.CheckedText.{declared_place, variables_of, with_copies, places_of}
+use Rattle.il_built.specs.CheckedText.{declared_place, variables_of, places_of}
 use Rattle.il_built.specs.Holding.{setting_at, Declares, Holds}
 use Rattle.il_built.proofs.VariablesCounted.{given_next, given_front, given_here, variables_to, variables_counted}
 

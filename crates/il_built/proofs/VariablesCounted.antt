@@ -128,7 +128,7 @@ pub record AreCounted (c : Counts) (owner : ℕ) (ps : List Place) : Type 0 wher
 one_further : (c behind : Counts) (owner : ℕ) (ps ds gs : List Place) → AreCounted c owner ps → IsOpening c behind ds ⊎ IsCounted c behind ds
     → (c.procedures ≡ owner → gs ≡ ds) → (c.procedures ≢ owner → gs ≡ []) → AreCounted behind owner (ps ++ gs)
 one_further c behind owner ps ds gs a (inl o) own other =
-    let nothing : gs ≡ [] = elim (cases_eq c.procedures owner) [ | inl e ↦ own e ∙ o.none | inr n ↦ other n ] in
+    let nothing : gs ≡ [] = elim (cases_eq c.procedures owner) [ inl e ↦ own e ∙ o.none | inr n ↦ other n ] in
     let same : ps ++ gs ≡ ps = ap (λ xs. ps ++ xs) nothing ∙ append-nil ps in
     let opens = o.procedures in
     let first : behind.procedures ≡ owner → ps ++ gs ≡ [] = λ h. same ∙ a.before (omega arith) in

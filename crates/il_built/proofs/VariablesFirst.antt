@@ -1,11 +1,10 @@
 -- In a text in order each variable stands in a procedure, and in front of its PRE.
 use Rattle.std.proofs.Common.{◌≡◌, ◌≢◌, ℕ, zero, suc, ◌+◌, ◌<◌, ◌≤◌, ◌∙◌, sym, ap, subst, refl, inl, inr, ◌⊎◌, not, Bool, true, false, ◌&&◌, List, [], ◌∷◌, length, drop, arith}
-use Rattle.std.specs.Prelude.{Option, Some, None, slice_get}
+use Rattle.std.specs.Prelude.{Some, slice_get}
 use Rattle.std.proofs.Math.Seq.{drop-cons}
 use Rattle.std.proofs.lemmas.Bool.{cases_lt}
 use Rattle.std.proofs.lemmas.Option.{get_or_from_slice_get, slice_get_within}
 use Rattle.il_core.specs.Statement.{Statement, Placed, procedure, variable}
-use Rattle.il_core.specs.declared.line.Place.{Place}
 use Rattle.il_syntax.specs.declared.order.Part.{Part}
 use Rattle.il_syntax.specs.declared.order.Part.TheVariants as part
 use Rattle.il_syntax.specs.declared.order.Stage.{Stage}
@@ -180,7 +179,7 @@ passed_next stmts owner i x there q =
     elim (first_or_inside c x.says) [
       | inl f ↦
           let more = f.procedures in
-          let at_least : owner ≤ c.procedures = elim q.passed [ | inl lt ↦ omega arith | inr own ↦ let e = own.0 in omega arith ] in
+          let at_least : owner ≤ c.procedures = elim q.passed [ inl lt ↦ omega arith | inr own ↦ let e = own.0 in omega arith ] in
           later (omega arith)
       | inr k ↦
           let same = k.procedures in
@@ -189,8 +188,7 @@ passed_next stmts owner i x there q =
             | inr own ↦
                 let e = own.0 in
                 let past = g.step.past ∙ ap (passes (part_of x.says)) own.1 ∙ k.past in
-                let stands = ap (λ b. may_stand (part_of x.says) b (is_opened q.stage)) (sym own.1) ∙ g.step.stands in
-                (
+                let stands = ap (λ b. may_stand (part_of x.says) b (is_opened q.stage)) (sym own.1) ∙ g.step.stands in (
                   record { stage = g.after; is = g.is; passed = inr (omega arith, past) },
                   none_here stmts owner i x there (inr (declares_none (setting_at stmts i) x.says (is_opened q.stage) stands)),
                 )

@@ -1,6 +1,6 @@
 -- A text without a fault keeps each rule, and the counts in front of each of its statements and at its end keep the limits.
 use Rattle.std.proofs.Common.{◌≡◌, ℕ, zero, suc, ◌+◌, ◌≤◌, sym, subst, refl, Bool, true, false, List, length, arith, if◌then◌else◌}
-use Rattle.std.specs.Prelude.{Some, None, slice_get, nat_lt}
+use Rattle.std.specs.Prelude.{Some, None, nat_lt}
 use Rattle.std.specs.Option.{option_map}
 use Rattle.il_core.specs.Statement.{Placed}
 use Rattle.il_core.specs.declared.refusal.Code.TheVariants as code
