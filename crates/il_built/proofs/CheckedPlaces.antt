@@ -20,7 +20,8 @@ use Rattle.il_built.specs.CheckedText.{of_procedure, declared_place, variables_o
 use Rattle.il_built.specs.Holding.{setting_at, Declares}
 use Rattle.il_built.proofs.BuiltRanges.{place_has_range}
 use Rattle.il_built.proofs.WithoutFault.{KeepsRules, keeps_rules, limited_at}
-use Rattle.il_built.proofs.VariablesCounted.{stands, given_next, given_here, not_given, variables_to, variables_counted, none_here}
+use Rattle.il_built.proofs.Given.{stands, given_next, given_here, not_given}
+use Rattle.il_built.proofs.VariablesCounted.{variables_to, variables_counted, none_here}
 
 -- the variables among the first statements, with their copies, are few
 few_to : (stmts : List Placed) (owner i : ℕ) → KeepsRules stmts → i ≤ length stmts

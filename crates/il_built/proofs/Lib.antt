@@ -3,6 +3,7 @@ pub mod BuiltSorts
 pub mod BuiltBounds
 pub mod BuiltFits
 pub mod BuiltRanges
+pub mod Given
 pub mod VariablesCounted
 pub mod VariablesFirst
 pub mod WithoutFault

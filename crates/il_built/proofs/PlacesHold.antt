@@ -13,7 +13,8 @@ use Rattle.il_types.specs.Built.{place_of}
 use Rattle.il_types.specs.Names.{counts_at}
 use Rattle.il_built.specs.CheckedText.{declared_place, variables_of, places_of}
 use Rattle.il_built.specs.Holding.{setting_at, Declares, Holds}
-use Rattle.il_built.proofs.VariablesCounted.{given_next, given_front, given_here, variables_to, variables_counted}
+use Rattle.il_built.proofs.Given.{given_next, given_front, given_here}
+use Rattle.il_built.proofs.VariablesCounted.{variables_to, variables_counted}
 
 -- an element behind others
 at_seam : {A : Type 0} (xs : List A) (y : A) (ys : List A) (n : ℕ) → length xs ≡ n → slice_get (xs ++ y ∷ ys) n ≡ Some y

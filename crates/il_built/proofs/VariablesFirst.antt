@@ -17,7 +17,8 @@ use Rattle.il_built.specs.CheckedText.{declared_place, variables_of}
 use Rattle.il_built.specs.Holding.{setting_at, AreOwned}
 use Rattle.il_built.proofs.BuiltSorts.{both_true, none_some}
 use Rattle.il_built.proofs.Entered.{bound}
-use Rattle.il_built.proofs.VariablesCounted.{stands, counts_next, none_here, variables_to, variables_counted}
+use Rattle.il_built.proofs.Given.{stands, counts_next}
+use Rattle.il_built.proofs.VariablesCounted.{none_here, variables_to, variables_counted}
 
 -- a procedure has begun
 abbrev is_opened : Stage → Bool

@@ -11,7 +11,7 @@ use Rattle.il_types.specs.Counts.{counts_behind, too_many}
 use Rattle.il_types.specs.Names.{front_of, counts_at}
 use Rattle.il_types.specs.Rules.{unnamed, broken, ComesNowhere, Answers}
 use Rattle.il_built.proofs.BuiltRanges.{nowhere_at}
-use Rattle.il_built.proofs.VariablesCounted.{stands, counts_next}
+use Rattle.il_built.proofs.Given.{stands, counts_next}
 
 -- no statement breaks one of these rules
 pub record KeepsRules (stmts : List Placed) : Type 0 where
