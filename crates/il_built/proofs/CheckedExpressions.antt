@@ -40,6 +40,7 @@ condition_behind (exit_when d) e h = refl
 condition_behind (assert d) e h = refl
 condition_behind _ e h = none_some e h
 
+-- the condition of a statement that keeps the rules is sound
 condition_fits : (s : Setting) (places : List Place) (x : Statement) (e : Tree) → Reads s places → IsKept s x → condition_in x ≡ Some e → IsSoundCondition places (built s e)
 condition_fits s places (pre d) e r k h = subst (λ t. IsSoundCondition places (built s t)) (some_is d e h) (pre_fits s places r d k)
 condition_fits s places (post d) e r k h = subst (λ t. IsSoundCondition places (built s t)) (some_is d e h) (post_fits s places r d k)
@@ -65,12 +66,14 @@ kept_at stmts i x a there =
     keeps stmts i x.says (nowhere_at (broken rule.Typed table stmts) stmts i x k.typed there) (nowhere_at (broken rule.Allowed table stmts) stmts i x k.allowed there)
     (nowhere_at (broken rule.Narrow table stmts) stmts i x k.narrow there)
 
+-- each condition of a procedure is sound over its places
 pub condition_sound : (stmts : List Placed) (owner i : ℕ) (x : Placed) (e : Tree) → IsInOrder stmts → Answers stmts None → slice_get stmts i ≡ Some x
     → (counts_at stmts i).procedures ≡ owner → condition_in x.says ≡ Some e → IsSoundCondition (places_of stmts owner) (built (setting_at stmts i) e)
 condition_sound stmts owner i x e o a there own h =
     let r = reads_places stmts owner i x o there own (condition_behind x.says e h) in
     condition_fits (setting_at stmts i) (places_of stmts owner) x.says e r (kept_at stmts i x a there) h
 
+-- each assignment of a procedure is sound over its places
 pub assignment_sound : (stmts : List Placed) (owner i : ℕ) (x : Placed) (name : List ℕ) (e : Tree) → IsInOrder stmts → Answers stmts None → slice_get stmts i ≡ Some x
     → (counts_at stmts i).procedures ≡ owner → x.says ≡ assign name e
     → IsSoundAssignment (places_of stmts owner) (assigned_place (setting_at stmts i) name) (built (setting_at stmts i) e)

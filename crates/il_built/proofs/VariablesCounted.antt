@@ -31,6 +31,7 @@ record IsCounted (c behind : Counts) (ps : List Place) : Type 0 where
   variables : behind.variables ≡ c.variables + length ps
   copies : behind.copies ≡ c.copies + length (filter is_copied ps)
 
+-- a variable counts itself
 declaring : (c : Counts) (s : Setting) (m : Mode) (name : List ℕ) (used : TypeUse) → IsCounted c (counts_behind c (variable m name used)) (place_of s (variable m name used) ∷ [])
 declaring c s mode.InOut name used = record { procedures = refl; variables = refl; copies = refl }
 declaring c s _ name used = record { procedures = refl; variables = refl; copies = refl }

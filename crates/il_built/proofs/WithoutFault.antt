@@ -21,6 +21,7 @@ pub record KeepsRules (stmts : List Placed) : Type 0 where
   pub narrow : ComesNowhere (broken rule.Narrow (front_of stmts).table stmts) stmts
   pub limited : ComesNowhere (broken rule.Limited (front_of stmts).table stmts) stmts
 
+-- the statements of a text without a fault break none
 pub keeps_rules : (stmts : List Placed) → Answers stmts None → KeepsRules stmts
 keeps_rules stmts a = record {
   typed = a.1.1.0;
@@ -36,6 +37,7 @@ pub record AreWithinLimits (c : Counts) : Type 0 where
   pub lines : c.lines ≤ 1000
   pub places : c.variables + c.copies ≤ 64
 
+-- counts of which there is not too much
 within_limits : (c : Counts) → option_map (λ m. unnamed (code.TooMany m)) (too_many c) ≡ None → AreWithinLimits c
 within_limits c h = by (nat_lt 64 c.procedures) (nat_lt 1000 c.lines) (nat_lt 64 (c.variables + c.copies)) refl refl refl h
   where
