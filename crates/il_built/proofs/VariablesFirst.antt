@@ -33,18 +33,18 @@ is_past at.Declarations = false
 is_past at.Variables = false
 is_past _ = true
 
--- a procedure has begun behind a part, if one has before it
+-- whether a procedure has begun behind a part, by whether one has in front of it
 abbrev opens : Part → Bool → Bool
 opens part.Opening b = true
 opens _ b = b
 
--- the variables are behind, behind a part, if they are before it
+-- whether the variables of the latest procedure are behind after a part, by whether they are in front of it
 abbrev passes : Part → Bool → Bool
 passes part.Opening b = false
 passes part.Precondition b = true
 passes _ b = b
 
--- whether a part may stand behind the variables of the latest procedure, if there is one
+-- whether a part may stand where the variables of the latest procedure are behind, and where a procedure has begun
 abbrev may_stand : Part → Bool → Bool → Bool
 may_stand part.Variable past opened = not past && opened
 may_stand part.Postcondition past opened = past
@@ -58,10 +58,11 @@ record IsStep (stage after : Stage) (p : Part) : Type 0 where
   past : is_past after ≡ passes p (is_past stage)
   stands : may_stand p (is_past stage) (is_opened stage) ≡ true
 
+-- the stage that a part leads to is one alone
 arrives : (stage t after : Stage) (p : Part) → Some t ≡ Some after → IsStep stage t p → IsStep stage after p
 arrives stage t after p e s = let f : t ≡ after = cc in subst (λ u. IsStep stage u p) f s
 
--- each step of a text in order is one
+-- each part that may stand at a stage makes this of it
 step : (stage : Stage) (p : Part) (after : Stage) → next stage p ≡ Some after → IsStep stage after p
 step at.Start part.Title after e = arrives at.Start at.Declarations after part.Title e (record { opened = refl; past = refl; stands = refl })
 step at.Declarations part.Declaration after e = arrives at.Declarations at.Declarations after part.Declaration e (record { opened = refl; past = refl; stands = refl })
