@@ -3,3 +3,10 @@ pub mod BuiltSorts
 pub mod BuiltBounds
 pub mod BuiltFits
 pub mod BuiltRanges
+pub mod Given
+pub mod VariablesCounted
+pub mod VariablesFirst
+pub mod WithoutFault
+pub mod CheckedPlaces
+pub mod PlacesHold
+pub mod CheckedExpressions
