@@ -8,7 +8,7 @@ use Rattle.il_blocks.specs.BlockLink.{AreLinks}
 use Rattle.il_types.specs.Rules.{Answers}
 use Rattle.il_built.specs.CheckedText.{procedure_of, procedure_names}
 
--- there are 1 to 64 procedures, and each keeps the invariant of a checked procedure
+-- each procedure of the checked text keeps the invariant of a checked procedure
 pub record AreCheckedProcedures (stmts : List Placed) (links : List Link) : Type 0 where
   pub each : (k : ℕ) (name : List ℕ) → slice_get (procedure_names stmts) k ≡ Some name → IsChecked (procedure_of stmts links (suc k))
 
