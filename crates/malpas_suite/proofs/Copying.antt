@@ -2,7 +2,6 @@
 use Rattle.std.proofs.Common.{◌≡◌, ℕ, ℤ, ◌+◌, ◌<◌, ◌⊎◌, inl, inr, ◌∙◌, sym, ap, subst, refl, Bool, true, false, not, ◌&&◌, Option, Some, None, List, length, get_or, arith, zero-add, if◌then◌else◌}
 use Rattle.std.specs.Prelude.{pos, ◌≤ℤ◌, int_le, slice_get, slice_set, slice_index}
 use Rattle.std.specs.List.{range_with_len}
-use Rattle.std.specs.Option.{option_map}
 use Rattle.std.proofs.lemmas.Bool.{and_parts, not-true, cases_eq}
 use Rattle.std.proofs.lemmas.Int.{ints}
 use Rattle.std.proofs.lemmas.List.{get_or-set_same, get_or-set_other, length-set}
@@ -10,7 +9,7 @@ use Rattle.std.proofs.lemmas.List.FromFn.{length-range_with_len, get_or-range_wi
 use Rattle.std.proofs.lemmas.Option.{slice_get_within, slice_get-get_or, get_or_from_slice_get}
 use Rattle.il_core.specs.Evaluation.{State, value_at}
 use Rattle.il_core.specs.Expression.{variable}
-use Rattle.il_core.specs.Machine.{step, stepped_at, assigned, assigned_to, stored, wrapped, lies_in, bit, goes}
+use Rattle.il_core.specs.Machine.{step, stepped_at, assigned, assigned_to, stored, wrapped, lies_in, goes}
 use Rattle.il_core.specs.Procedure.{Procedure, assign}
 use Rattle.il_core.specs.Checked.{Suits, IsSoundAssignment}
 use Rattle.il_core.specs.Run.{IsInRange}
@@ -118,7 +117,7 @@ same_at : (first s : State) (row : List ℕ) (t u k source : ℕ) → t < length
     → (k ≡ t) ⊎ (k ≡ t → ⊥) → value_at (slice_set s t (value_at s u)) k ≡ value_at first source
 same_at first s row t u k source in_row in_state lt h at (inl e) =
     let number : get_or (slice_set row t (slice_index row u)) t 0 ≡ source =
-            ap (λ i. get_or (slice_set row t (slice_index row u)) i 0) (sym e) ∙ get_or_from_slice_get _ k source 0 at in
+    ap (λ i. get_or (slice_set row t (slice_index row u)) i 0) (sym e) ∙ get_or_from_slice_get _ k source 0 at in
     ap (value_at (slice_set s t (value_at s u))) e
     ∙ get_or-set_same s t (value_at s u) (pos 0) in_state
     ∙ h u (slice_index row u) (slice_get-get_or row u 0 lt)

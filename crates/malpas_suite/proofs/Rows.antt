@@ -1,5 +1,5 @@
 -- The row of a procedure is found along its lines, one after the other.
-use Rattle.std.proofs.Common.{◌≡◌, ℕ, ◌+◌, ◌<◌, ◌≤◌, ◌∙◌, sym, ap, refl, List, length, take, get_or, Option, Some, None}
+use Rattle.std.proofs.Common.{◌≡◌, ℕ, ◌<◌, ◌≤◌, ◌∙◌, sym, ap, refl, List, length, take, get_or, Option, Some, None}
 use Rattle.std.specs.Prelude.{fold}
 use Rattle.std.specs.List.{range_with_len}
 use Rattle.std.proofs.lemmas.List.{take_all}
@@ -30,5 +30,5 @@ pub row_missing : (p : NamedProcedure) (places : List Place) (lines : List Line)
     → None ≡ row_of (procedure_of p)
 row_missing p places lines n line row e f lt at found missing =
     fold_stuck (λ row line. row_behind places row (instruction_of line)) None (λ x. refl) (Some (range_with_len 0 (length places))) lines n line lt
-        (ap (λ o. row_behind places o (instruction_of (get_or lines n line))) found ∙ ap (λ l. row_behind places (Some row) (instruction_of l)) (sym at) ∙ missing)
+    (ap (λ o. row_behind places o (instruction_of (get_or lines n line))) found ∙ ap (λ l. row_behind places (Some row) (instruction_of l)) (sym at) ∙ missing)
     ∙ along_all p places lines e f

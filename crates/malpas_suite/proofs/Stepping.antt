@@ -1,5 +1,5 @@
 -- Each run of a straight procedure steps through its lines in order, and ends by its row.
-use Rattle.std.proofs.Common.{◌≡◌, ℕ, suc, ◌+◌, ◌<◌, ◌∙◌, sym, ap, subst, refl, Bool, true, false, List, [], ◌∷◌, length, Option, Some, None, arith, if◌then◌else◌}
+use Rattle.std.proofs.Common.{◌≡◌, ℕ, suc, ◌+◌, ◌<◌, ◌∙◌, ap, subst, refl, Bool, true, false, List, [], ◌∷◌, length, Some, None, arith, if◌then◌else◌}
 use Rattle.std.specs.Prelude.{slice_get, slice_set, slice_index, fold}
 use Rattle.std.specs.List.{range_with_len}
 use Rattle.std.proofs.lemmas.List.Folds.{fold_stays}
@@ -12,7 +12,7 @@ use Rattle.il_core.specs.Run.{HaltsAfter}
 use Rattle.il_core.specs.declared.line.Halt.TheVariants.{End}
 use Rattle.il_core.specs.declared.line.Place.{Place}
 use Rattle.report_text.specs.Straight.{takes, row_behind, row_of, RowHolds}
-use Rattle.malpas_suite.proofs.Copying.{IsCopy, is_copy, copies, Follows, follows_first, follows_next}
+use Rattle.malpas_suite.proofs.Copying.{is_copy, copies, Follows, follows_first, follows_next}
 
 -- from line pc on the lines are these
 Behind : List Instruction → ℕ → List Instruction → Type 0
@@ -85,7 +85,7 @@ runs p first s row to_row pc (pre (truth true) ∷ rest) c b size more f e =
     let at_start : pc ≡ 0 = (c.fits pc (pre (truth true)) at).0 in
     let long = c.some_lines in
     goes_on p first s s to_row pc (begins p pc s at)
-        (runs p first s row to_row (pc + 1) rest c (behind p.lines pc (pre (truth true)) rest b) (omega arith) (omega arith) f e)
+    (runs p first s row to_row (pc + 1) rest c (behind p.lines pc (pre (truth true)) rest b) (omega arith) (omega arith) f e)
 runs p first s row to_row pc (assign t (variable u) ∷ rest) c b size more f e =
     let at = here p.lines pc (assign t (variable u)) rest b in
     let fit = c.fits pc (assign t (variable u)) at in
@@ -93,8 +93,8 @@ runs p first s row to_row pc (assign t (variable u) ∷ rest) c b size more f e 
     let left = takes_all p.places rest (takes p.places t u) (slice_set row t (slice_index row u)) to_row e in
     let copy = is_copy p.places t u left.0 in
     goes_on p first s (slice_set s t (value_at s u)) to_row pc (copies p pc s t u copy fit.1 f.in_range at)
-        (runs p first (slice_set s t (value_at s u)) (slice_set row t (slice_index row u)) to_row (pc + 1) rest c (behind p.lines pc (assign t (variable u)) rest b)
-             (omega arith) later (follows_next p.places first s row t u copy f) left.1)
+    (runs p first (slice_set s t (value_at s u)) (slice_set row t (slice_index row u)) to_row (pc + 1) rest c (behind p.lines pc (assign t (variable u)) rest b)
+    (omega arith) later (follows_next p.places first s row t u copy f) left.1)
 runs p first s row to_row pc (end_procedure (truth true) ∷ []) c b size more f e =
     let same : row ≡ to_row = cc in
     record {
@@ -116,7 +116,7 @@ row_holds p row c each e =
       each = each;
       runs = λ s initial.
           let run = runs p s s (range_with_len 0 (length p.places)) row 0 p.lines c (from_first p.lines) (omega arith) (omega arith)
-                  (follows_first p.places s initial.in_range) e in
+          (follows_first p.places s initial.in_range) e in
           record {
             to_s = run.to_s;
             ends = record { count = run.count; initial = initial; halts = run.halts };

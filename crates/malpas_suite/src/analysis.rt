@@ -3,8 +3,8 @@ ghost use Rattle.std.specs.Prelude.{◌≡◌, IfOk, Some};
 ghost use Rattle.il_core.specs.Checked.{procedure_of};
 ghost use Rattle.il_core.specs.Text.{text_procedure};
 ghost use Rattle.flow_graph.specs.Graph.{graph_of, IsWellFormed, HasPlaces};
-ghost use Rattle.interval_reduce.specs.Derivation.{IsDerivationOf, Reduces};
 ghost use Rattle.flow_graph.specs.Reached.{IsInnerOrder};
+ghost use Rattle.interval_reduce.specs.Derivation.{Reduces};
 ghost use Rattle.report_text.specs.Reported.{AreAnalyses, AreAnalysesBy, IsProcReportOf, TellsOfRuns};
 
 use crate::straight::straight_row;
@@ -18,7 +18,7 @@ use path_expr::paths;
 use report_text::{Analyses, ProcReport};
 use std::alloc::Global;
 
-/// The analyses of a reducible procedure, from its graph and the order of its lines.
+/// The analyses of a reducible procedure, from its graph and the order in which its lines are taken into intervals.
 fn analyses_of(
     alloc: Global,
     proc: &CheckedProc,
@@ -33,19 +33,15 @@ fn analyses_of(
     ensures runs { IfOk result (λ a. TellsOfRuns (procedure_of proc.now) (Some a)) }
 {
     let places = proc.places().as_slice();
-    let paths = paths(alloc, graph, order)?;
-    let usage = data_use(alloc, graph, places, order)?;
-    let flows = flows(alloc, graph, places, order)?;
-    let row = straight_row(alloc, proc)?;
     Ok(Analyses {
-        paths,
-        usage,
-        flows,
-        row,
+        paths: paths(alloc, graph, order)?,
+        usage: data_use(alloc, graph, places, order)?,
+        flows: flows(alloc, graph, places, order)?,
+        row: straight_row(alloc, proc)?,
     })
 }
 
-/// The analyses of a procedure, where its shape is reducible.
+/// The analyses of a procedure exactly where its shape is reducible, from its graph and the derivation of that.
 fn analyses_by(
     alloc: Global,
     proc: &CheckedProc,
@@ -66,8 +62,20 @@ fn analyses_by(
     }
 }
 
-/// The report of a procedure: the structure of its graph and, exactly where that is reducible, its other analyses. The
-/// only error is `NoMemory`.
+/// The report of a procedure: its name, places, lines and arcs, its control structure, the derivation of its graph by
+/// intervals (Allen and Cocke, A program data flow analysis procedure, 1976) and, exactly where that structure is
+/// reducible, its analyses: all paths as one expression over the arcs (Carré, An algebra for network routing problems,
+/// 1971), the use of each variable (by elimination, Carré, Graphs and Networks, 1979), what its final value rests on
+/// (after Bergeretti and Carré, Information-flow and data-flow analysis of while-programs, 1985), and the row of a
+/// straight procedure. So `analyses` is `None` exactly where some cycle can be entered first at two lines.
+///
+/// Two runs that end, and whose initial states agree on the sources of a row of flow, end with equal values of its
+/// variable. Each run of a straight procedure from an initial state ends, and each place then has the first value of the
+/// place that the row gives for it.
+///
+/// The structure and the derivation take time at most quadratic in the lines, the row linear time, and the rest that of
+/// `paths`, `data_use` and `flows`: eliminations, and for each variable rounds of questions about tests. The only error is
+/// `NoMemory`.
 pub fn analyse_proc(alloc: Global, proc: &CheckedProc) -> Result<ProcReport, NoMemory>
     ensures report { IfOk result (IsProcReportOf (text_procedure proc.now)) }
     ensures runs { IfOk result (λ r. TellsOfRuns (procedure_of proc.now) r.analyses) }
