@@ -23,16 +23,18 @@ pub record IsCopy (places : List Place) (t u : ℕ) : Type 0 where
   pub source : Place
   pub target_there : slice_get places t ≡ Some target
   pub source_there : slice_get places u ≡ Some source
-  pub wraps : target.wrap ≡ false
+  pub no_wrap : target.wrap ≡ false
   pub least : target.least ≤ℤ source.least
   pub greatest : source.greatest ≤ℤ target.greatest
 
+-- the test of two numbers and their order
 ordered : (a b : ℤ) → int_le a b ≡ true → a ≤ℤ b
 ordered a b h = grind (arith, ints)
 
 at_most : (a b : ℤ) → a ≤ℤ b → int_le a b ≡ true
 at_most a b h = grind (arith, ints)
 
+-- two places of which the one holds all values of the other
 copy_of : (places : List Place) (t u : ℕ) (a b : Option Place) → slice_get places t ≡ a → slice_get places u ≡ b → holds_all a b ≡ true → IsCopy places t u
 copy_of places t u (Some a) (Some b) e f h =
     let parts = and_parts (not a.wrap) _ h in
@@ -42,7 +44,7 @@ copy_of places t u (Some a) (Some b) e f h =
       source = b;
       target_there = e;
       source_there = f;
-      wraps = not-true a.wrap parts.0;
+      no_wrap = not-true a.wrap parts.0;
       least = ordered a.least b.least range.0;
       greatest = ordered b.greatest a.greatest range.1;
     }
@@ -66,6 +68,7 @@ high_enough places s t u h r =
     let above : h.source.greatest ≤ℤ h.target.greatest = h.greatest in
     omega (arith, ints)
 
+-- a value from the least to the greatest lies in the range
 lies : (p : Place) (v : ℤ) → p.least ≤ℤ v → v ≤ℤ p.greatest → lies_in p v ≡ true
 lies p v low high = ap (λ b. b && int_le v p.greatest) (at_most p.least v low) ∙ at_most v p.greatest high
 
@@ -74,6 +77,7 @@ suits : (places : List Place) (u : ℕ) (flag : Bool) → Suits flag places (var
 suits places u true h = absurd h
 suits places u false h = refl
 
+-- a target that may be given a variable holds no truth values
 holds_number : (places : List Place) (t u : ℕ) (h : IsCopy places t u) → IsSoundAssignment places t (variable u) → h.target.flag ≡ false
 holds_number places t u h a =
     let there : Some h.target ≡ Some a.target = sym h.target_there ∙ a.there in
@@ -89,7 +93,7 @@ copies p pc s t u h a r at =
     ap (stepped_at p.places pc s) at
     ∙ ap (assigned pc t (variable u) s) h.target_there
     ∙ ap (λ (b : Bool). assigned_to pc t h.target s (if b then None else Some v)) (holds_number p.places t u h a)
-    ∙ ap (λ (b : Bool). stored pc t s (if b then Some (wrapped h.target v) else (if lies_in h.target v then Some v else None))) h.wraps
+    ∙ ap (λ (b : Bool). stored pc t s (if b then Some (wrapped h.target v) else (if lies_in h.target v then Some v else None))) h.no_wrap
     ∙ ap (λ (b : Bool). stored pc t s (if b then Some v else None)) (lies h.target v (low_enough p.places s t u h r) (high_enough p.places s t u h r))
 
 -- the state is in range, and each place has the first value of the place that the row gives for it
@@ -98,6 +102,7 @@ pub record Follows (places : List Place) (first : State) (row : List ℕ) (s : S
   pub each : length row ≡ length places
   pub same : (k source : ℕ) → slice_get row k ≡ Some source → value_at s k ≡ value_at first source
 
+-- the row of own numbers has k at place k
 own : (n k source : ℕ) → slice_get (range_with_len 0 n) k ≡ Some source → k ≡ source
 own n k source at =
     let lt : k < n = subst (λ m. k < m) (length-range_with_len 0 n) (slice_get_within (range_with_len 0 n) k source at) in

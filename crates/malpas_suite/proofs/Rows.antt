@@ -14,12 +14,13 @@ use Rattle.report_text.specs.Straight.{row_behind, row_of}
 abbrev pub row_along : List Place → List Line → Option (List ℕ)
 row_along places lines = fold (λ row line. row_behind places row (instruction_of line)) (Some (range_with_len 0 (length places))) lines
 
+-- the row behind all lines of a procedure is its row
 along_all : (p : NamedProcedure) (places : List Place) (lines : List Line) → places ≡ p.places → lines ≡ p.lines → row_along places lines ≡ row_of (procedure_of p)
 along_all p places lines e f =
     ap (λ ps. row_along ps lines) e ∙ ap (row_along p.places) f
     ∙ sym (fold-map (row_behind p.places) instruction_of (Some (range_with_len 0 (length p.places))) p.lines)
 
--- the row behind all lines is that of the procedure
+-- what is found behind all lines is the row of the procedure
 pub row_found : (p : NamedProcedure) (places : List Place) (lines : List Line) (n : ℕ) (row : List ℕ) → places ≡ p.places → lines ≡ p.lines → length lines ≤ n
     → row_along places (take n lines) ≡ Some row → row_of (procedure_of p) ≡ Some row
 row_found p places lines n row e f h found = sym (along_all p places lines e f) ∙ sym (ap (row_along places) (take_all n lines h)) ∙ found

@@ -18,18 +18,21 @@ use Rattle.malpas_suite.proofs.Copying.{is_copy, copies, Follows, follows_first,
 Behind : List Instruction → ℕ → List Instruction → Type 0
 Behind lines pc rest = (i : ℕ) → slice_get lines (pc + i) ≡ slice_get rest i
 
+-- the first of them is line pc
 here : (lines : List Instruction) (pc : ℕ) (i : Instruction) (rest : List Instruction) → Behind lines pc (i ∷ rest) → slice_get lines pc ≡ Some i
 unfolding Behind
 here lines pc i rest h =
     let e : pc ≡ pc + 0 = omega arith in
     ap (slice_get lines) e ∙ h 0
 
+-- the others are the lines from pc + 1 on
 behind : (lines : List Instruction) (pc : ℕ) (i : Instruction) (rest : List Instruction) → Behind lines pc (i ∷ rest) → Behind lines (pc + 1) rest
 unfolding Behind
 behind lines pc i rest h = λ k.
     let e : pc + 1 + k ≡ pc + suc k = omega arith in
     ap (slice_get lines) e ∙ h (suc k)
 
+-- all lines are those from line 0 on
 from_first : (lines : List Instruction) → Behind lines 0 lines
 unfolding Behind
 from_first lines = λ k.
