@@ -5,6 +5,7 @@ mod acceptance;
 mod analysis;
 #[cfg(test)]
 mod between;
+mod straight;
 
 pub use acceptance::accept;
 pub use analysis::analyse_proc;
