@@ -3,3 +3,5 @@ pub mod BuiltSorts
 pub mod BuiltBounds
 pub mod BuiltFits
 pub mod BuiltRanges
+pub mod CheckedLinesUpto
+pub mod CheckedLinesRising
