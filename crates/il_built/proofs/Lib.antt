@@ -5,3 +5,5 @@ pub mod BuiltFits
 pub mod BuiltRanges
 pub mod CheckedLinesUpto
 pub mod CheckedLinesRising
+pub mod CheckedLinesCounts
+pub mod CheckedLinesOrder
