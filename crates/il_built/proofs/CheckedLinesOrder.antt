@@ -75,7 +75,7 @@ pub record Stands (stmts : List Placed) (i : ℕ) : Type 0 where
   pub fits : Fits stage (owner stmts i) (ended stmts i) (line stmts i)
 
 -- what stands at a number and behind it
-drop_here : (ss : List Placed) (i : ℕ) (s : Placed) → slice_get ss i ≡ Some s → drop i ss ≡ s ∷ drop (suc i) ss
+pub drop_here : (ss : List Placed) (i : ℕ) (s : Placed) → slice_get ss i ≡ Some s → drop i ss ≡ s ∷ drop (suc i) ss
 drop_here [] i s e = absurd (not_some s e)
 drop_here (x ∷ xs) zero s e = let f : x ≡ s = cc in ap (λ (y : Placed). y ∷ xs) f
 drop_here (x ∷ xs) (suc i) s e = drop_here xs i s e

@@ -7,3 +7,5 @@ pub mod CheckedLinesUpto
 pub mod CheckedLinesRising
 pub mod CheckedLinesCounts
 pub mod CheckedLinesOrder
+pub mod CheckedLinesBlocks
+pub mod CheckedLinesNested
