@@ -9,3 +9,9 @@ pub mod CheckedLinesCounts
 pub mod CheckedLinesOrder
 pub mod CheckedLinesBlocks
 pub mod CheckedLinesNested
+pub mod VariablesCounted
+pub mod VariablesFirst
+pub mod WithoutFault
+pub mod CheckedPlaces
+pub mod PlacesHold
+pub mod CheckedExpressions
