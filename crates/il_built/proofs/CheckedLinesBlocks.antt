@@ -13,7 +13,7 @@ use Rattle.il_blocks.specs.BlockLink.{between, Pairs}
 use Rattle.il_blocks.proofs.BlockNest.{scan, scan_append, opens_scanned}
 use Rattle.il_blocks.proofs.BlockChain.{front_next, between_next}
 use Rattle.il_blocks.proofs.BlockOne.{scan_weaken}
-use Rattle.il_built.proofs.CheckedLinesCounts.{stmt_at}
+use Rattle.il_built.proofs.VariablesCounted.{stands}
 
 not_some : {A : Type 0} (x : A) → ◌≡◌ {A = Option A} None (Some x) → ⊥
 not_some x e = cc
@@ -66,7 +66,7 @@ open_at ss n zero h = ([], refl)
 open_at ss n (suc i) h =
     let within : i < length ss = omega (arith, h) in
     let before : i ≤ length ss = omega (arith, h) in
-    let s = stmt_at ss i within in
+    let s = stands ss i within in
     let ks = open_at ss n i before in
     let js = closings_scan (closed_by s.0.says) (openings (opened_by s.0.says)) ks.0 (λ c f. top ss i s.0 c ks.0 n s.1 f ks.1) (λ is. openings_scan (opened_by s.0.says) is) in (
       js.0,
@@ -87,7 +87,7 @@ front_split ss i (suc j) s h l at = elim (cases_lt i j) [
   | inl less ↦
       let within : j < length ss = omega (arith, l) in
       let low : j ≤ length ss = omega arith in
-      let t = stmt_at ss j within in
+      let t = stands ss j within in
       front_next ss j t.0 t.1 ∙ ap (λ (bs : List Bracket). bs ++ brackets_of t.0.says) (front_split ss i j s less low at)
       ∙ append_assoc (brackets (take i ss)) (brackets_of s.says ++ between ss i j) (brackets_of t.0.says)
       ∙ ap (λ (bs : List Bracket). brackets (take i ss) ++ bs)

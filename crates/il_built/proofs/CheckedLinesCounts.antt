@@ -1,5 +1,5 @@
 -- How many procedures have begun and ended before a statement, and its line, from one statement to the next.
-use Rattle.std.proofs.Common.{◌≡◌, ℕ, zero, suc, ◌+◌, ◌<◌, ◌≤◌, ◌∙◌, sym, ap, subst, refl, inl, inr, Bool, true, false, List, [], ◌∷◌, ◌++◌, length, take, arith, if◌then◌else◌}
+use Rattle.std.proofs.Common.{◌≡◌, ◌⊎◌, ℕ, zero, suc, ◌+◌, ◌<◌, ◌≤◌, ◌∙◌, sym, ap, subst, refl, inl, inr, Bool, true, false, List, [], ◌∷◌, ◌++◌, length, take, arith, if◌then◌else◌}
 use Rattle.std.specs.Prelude.{Option, Some, None, slice_get, fold}
 use Rattle.std.proofs.lemmas.Bool.{cases_lt}
 use Rattle.il_core.specs.Statement.{Statement, Placed, variable, procedure, end_procedure}
@@ -11,6 +11,7 @@ use Rattle.il_types.specs.declared.counts.Counts.{Counts}
 use Rattle.il_types.specs.Counts.{counts_behind, one_if, is_line}
 use Rattle.il_types.specs.Names.{Front, one_more, counts_at}
 use Rattle.il_built.proofs.CheckedLinesRising.{rising}
+use Rattle.il_built.proofs.VariablesCounted.{stands}
 
 not_some : {A : Type 0} (x : A) → ◌≡◌ {A = Option A} None (Some x) → ⊥
 not_some x e = cc
@@ -73,12 +74,6 @@ ended_next stmts i s at = ap endings (take_next stmts i s at) ∙ endings_more (
 pub next_line_is : (stmts : List Placed) (i : ℕ) (s : Placed) → slice_get stmts i ≡ Some s → line stmts (suc i) ≡ line_behind (line stmts i) s.says
 next_line_is stmts i s at = let e : suc i ≡ i + 1 = omega arith in ap (line stmts) e ∙ line_next stmts i s at
 
--- there is a statement at each number below the length
-pub stmt_at : (stmts : List Placed) (i : ℕ) → i < length stmts → (s : Placed) × (slice_get stmts i ≡ Some s)
-stmt_at [] i h = absurd (omega (arith, h))
-stmt_at (s ∷ ss) zero h = (s, refl)
-stmt_at (s ∷ ss) (suc i) h = let k : i < length ss = omega (arith, h) in stmt_at ss i k
-
 begins_few : (s : Statement) → begins s ≤ 1
 begins_few (procedure _) = omega arith
 begins_few _ = omega arith
@@ -89,7 +84,7 @@ ends_few _ = omega arith
 
 pub owner_step : (stmts : List Placed) (i : ℕ) → i < length stmts → (owner stmts i ≤ owner stmts (suc i)) × (owner stmts (suc i) ≤ owner stmts i + 1)
 owner_step stmts i h =
-    let s = stmt_at stmts i h in
+    let s = stands stmts i h in
     let e = owner_next stmts i s.0 s.1 in
     let few = begins_few s.0.says in
     let low : owner stmts i ≤ owner stmts (suc i) = omega (arith, e) in
@@ -98,7 +93,7 @@ owner_step stmts i h =
 
 pub ended_step : (stmts : List Placed) (i : ℕ) → i < length stmts → (ended stmts i ≤ ended stmts (suc i)) × (ended stmts (suc i) ≤ ended stmts i + 1)
 ended_step stmts i h =
-    let s = stmt_at stmts i h in
+    let s = stands stmts i h in
     let e = ended_next stmts i s.0 s.1 in
     let few = ends_few s.0.says in
     let low : ended stmts i ≤ ended stmts (suc i) = omega (arith, e) in
@@ -125,6 +120,11 @@ pub behind_is : (n : ℕ) (s : Statement) → begins s ≡ 0 → line_behind n s
 behind_is n (procedure _) e = absurd (omega (arith, e))
 behind_is n _ e = refl
 
+-- a statement begins no procedure or one, whose lines are counted from 0
+pub begins_cases : (s : Statement) → (begins s ≡ 0) ⊎ ((begins s ≡ 1) × ((n : ℕ) → line_behind n s ≡ 0))
+begins_cases (procedure _) = inr (refl, λ n. refl)
+begins_cases _ = inl refl
+
 -- inside one procedure lines do not fall
 pub line_rises : (stmts : List Placed) (i j : ℕ) → i ≤ j → j ≤ length stmts → owner stmts i ≡ owner stmts j → line stmts i ≤ line stmts j
 line_rises stmts i zero h l same = let e : i ≡ zero = omega arith in let f : line stmts i ≡ line stmts zero = ap (line stmts) e in omega (arith, f)
@@ -134,7 +134,7 @@ line_rises stmts i (suc j) h l same = elim (cases_lt j i) [
       let within : j < length stmts = omega (arith, l) in
       let before : j ≤ length stmts = omega arith in
       let low : owner stmts i ≤ owner stmts j = owner_rises stmts i j more before in
-      let s = stmt_at stmts j within in
+      let s = stands stmts j within in
       let e : owner stmts (suc j) ≡ owner stmts j + begins s.0.says = owner_next stmts j s.0 s.1 in
       let here : owner stmts i ≡ owner stmts j = omega (arith, same, low, e) in
       let none : begins s.0.says ≡ 0 = omega (arith, same, low, e) in

@@ -19,8 +19,9 @@ use Rattle.il_blocks.proofs.BlockNest.{scan, scan_one, scan_append, opens_scanne
 use Rattle.il_blocks.proofs.BlockChain.{front_next}
 use Rattle.il_blocks.proofs.BlockOne.{between_split}
 use Rattle.il_built.proofs.CheckedLinesBlocks.{open_at, opened_still}
-use Rattle.il_built.proofs.CheckedLinesCounts.{owner_next, stmt_at}
+use Rattle.il_built.proofs.CheckedLinesCounts.{owner_next}
 use Rattle.il_built.proofs.CheckedLinesOrder.{drop_here}
+use Rattle.il_built.proofs.VariablesCounted.{stands}
 
 not_some : {A : Type 0} (x : A) → ◌≡◌ {A = Option A} None (Some x) → ⊥
 not_some x e = cc
@@ -111,7 +112,7 @@ nested_at ss o n zero h = record { within = false; turns = take_turns ss o; bloc
 nested_at ss o n (suc i) h =
     let within : i < length ss = omega (arith, h) in
     let before : i ≤ length ss = omega (arith, h) in
-    let s = stmt_at ss i within in
+    let s = stands ss i within in
     let f = nested_at ss o n i before in
     let js = open_at ss n (suc i) h in
     let t = turns_here ss i s.0 f.within s.1 f.turns in
@@ -173,7 +174,7 @@ same_owner ss i (suc m) j o n p b h l = elim (cases_lt m i) [
       let inside : m < j = omega (arith, l) in
       let far : j < length ss = slice_get_within ss j p.ender p.to in
       let within : m < length ss = omega arith in
-      let s = stmt_at ss m within in
+      let s = stands ss m within in
       let before : owner ss m ≡ owner ss i = same_owner ss i m j o n p b more low in
       let next : owner ss (suc m) ≡ owner ss m + begins s.0.says = owner_next ss m s.0 s.1 in
       let none : begins s.0.says ≡ 0 = begins_nothing s.0 (cases_lt i m) s.1 inside more in

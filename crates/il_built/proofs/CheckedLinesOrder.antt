@@ -11,7 +11,8 @@ use Rattle.il_syntax.specs.declared.order.Stage.TheVariants as at
 use Rattle.il_syntax.specs.Order.{part_of, next, run, IsInOrder}
 use Rattle.il_blocks.specs.BlockLabel.{begins, owner}
 use Rattle.il_blocks.specs.BlockLink.{has_line, line_behind, line}
-use Rattle.il_built.proofs.CheckedLinesCounts.{ends, ended, owner_next, ended_next, next_line_is, stmt_at}
+use Rattle.il_built.proofs.CheckedLinesCounts.{ends, ended, owner_next, ended_next, next_line_is}
+use Rattle.il_built.proofs.VariablesCounted.{stands}
 
 not_some : {A : Type 0} (x : A) → ◌≡◌ {A = Option A} None (Some x) → ⊥
 not_some x e = cc
@@ -112,7 +113,7 @@ stage_at stmts o zero h = record { stage = at.Start; rest = o; fits = (refl, ref
 stage_at stmts o (suc i) h =
     let within : i < length stmts = omega (arith, h) in
     let before : i ≤ length stmts = omega (arith, h) in
-    let s = stmt_at stmts i within in
+    let s = stands stmts i within in
     step stmts i s.0 (stage_at stmts o i before) s.1
 
 abbrev pub is_pre : Statement → Bool

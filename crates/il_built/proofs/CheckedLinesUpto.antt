@@ -1,9 +1,7 @@
 -- A list that is made number by number: where the elements that each number gives stand.
 use Rattle.std.proofs.Common.{◌≡◌, ◌⊎◌, ℕ, zero, suc, ◌+◌, ◌-◌, ◌<◌, ◌≤◌, ◌∙◌, sym, ap, subst, refl, inl, inr, List, [], ◌∷◌, ◌++◌, length, arith}
 use Rattle.std.specs.Prelude.{Option, Some, None, slice_get}
-use Rattle.std.specs.List.{flat_map, range_with_len}
 use Rattle.std.proofs.lemmas.Bool.{cases_lt}
-use Rattle.std.proofs.lemmas.Grind.{flat_map-append}
 use Rattle.std.proofs.lemmas.List.{append-nil, length-append}
 use Rattle.std.proofs.lemmas.Option.{slice_get_within}
 
@@ -14,21 +12,6 @@ upto f (suc n) = upto f n ++ f n
 
 not_some : {A : Type 0} (x : A) → ◌≡◌ {A = Option A} None (Some x) → ⊥
 not_some x e = cc
-
--- a range ends with its last number
-range_more : (a n : ℕ) → range_with_len a (suc n) ≡ range_with_len a n ++ (a + n) ∷ []
-range_more a zero = let e : a ≡ a + 0 = omega arith in ap (λ (k : ℕ). k ∷ []) e
-range_more a (suc n) =
-    let e : (a + 1) + n ≡ a + suc n = omega arith in
-    ap (λ (ks : List ℕ). a ∷ ks) (range_more (a + 1) n ∙ ap (λ (k : ℕ). range_with_len (a + 1) n ++ k ∷ []) e)
-
--- what the numbers of a range from 0 on give
-pub upto_is : {A : Type 0} (f : ℕ → List A) (n : ℕ) → flat_map f (range_with_len 0 n) ≡ upto f n
-upto_is f zero = refl
-upto_is f (suc n) =
-    let e : 0 + n ≡ n = omega arith in
-    ap (flat_map f) (range_more 0 n) ∙ flat_map-append f (range_with_len 0 n) ((0 + n) ∷ [])
-    ∙ ap (λ (xs : List _). xs ++ (f (0 + n) ++ [])) (upto_is f n) ∙ ap (λ (xs : List _). upto f n ++ xs) (append-nil (f (0 + n)) ∙ ap f e)
 
 -- an element of the first of two lists
 get_left : {A : Type 0} (xs ys : List A) (k : ℕ) → k < length xs → slice_get (xs ++ ys) k ≡ slice_get xs k
@@ -70,11 +53,11 @@ found f (suc n) k a e = elim (cases_lt k (length (upto f n))) [
 ]
 
 -- what a number gives stands behind what the numbers below it give
-pub stands : {A : Type 0} (f : ℕ → List A) (n x part : ℕ) (a : A) → x < n → slice_get (f x) part ≡ Some a → slice_get (upto f n) (length (upto f x) + part) ≡ Some a
-stands f zero x part a h e = absurd (omega (arith, h))
-stands f (suc n) x part a h e = elim (cases_lt x n) [
+pub stands_in : {A : Type 0} (f : ℕ → List A) (n x part : ℕ) (a : A) → x < n → slice_get (f x) part ≡ Some a → slice_get (upto f n) (length (upto f x) + part) ≡ Some a
+stands_in f zero x part a h e = absurd (omega (arith, h))
+stands_in f (suc n) x part a h e = elim (cases_lt x n) [
   | inl less ↦
-      let there : slice_get (upto f n) (length (upto f x) + part) ≡ Some a = stands f n x part a less e in
+      let there : slice_get (upto f n) (length (upto f x) + part) ≡ Some a = stands_in f n x part a less e in
       get_left (upto f n) (f n) (length (upto f x) + part) (slice_get_within (upto f n) (length (upto f x) + part) a there) ∙ there
   | inr more ↦
       let same : x ≡ n = omega arith in

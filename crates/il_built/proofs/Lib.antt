@@ -15,3 +15,4 @@ pub mod WithoutFault
 pub mod CheckedPlaces
 pub mod PlacesHold
 pub mod CheckedExpressions
+pub mod CheckedLinesNumbered
