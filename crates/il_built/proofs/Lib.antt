@@ -16,3 +16,4 @@ pub mod CheckedPlaces
 pub mod PlacesHold
 pub mod CheckedExpressions
 pub mod CheckedLinesNumbered
+pub mod CheckedLinesEnd
