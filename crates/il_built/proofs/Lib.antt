@@ -17,3 +17,4 @@ pub mod PlacesHold
 pub mod CheckedExpressions
 pub mod CheckedLinesNumbered
 pub mod CheckedLinesEnd
+pub mod CheckedLinesJumps
