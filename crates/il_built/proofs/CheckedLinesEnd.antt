@@ -29,7 +29,7 @@ pub record IsEndOf (stmts : List Placed) (k z : ℕ) : Type 0 where
   pub says : stmt.says ≡ end_procedure
   pub behind : ended stmts (suc z) ≡ k
 
-line_inside : (stmts : List Placed) (k x : ℕ) (s : Placed) → IsInOrder stmts → IsLineOf stmts k x s → Inside s.says (owner stmts x) (ended stmts x) (line stmts x)
+pub line_inside : (stmts : List Placed) (k x : ℕ) (s : Placed) → IsInOrder stmts → IsLineOf stmts k x s → Inside s.says (owner stmts x) (ended stmts x) (line stmts x)
 line_inside stmts k x s o l = inside stmts o x s (slice_get_within stmts x s l.there) l.there l.has
 
 ends_one : (s : Statement) → ends s ≡ 1 → s ≡ end_procedure

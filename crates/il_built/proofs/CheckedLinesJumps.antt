@@ -196,7 +196,3 @@ goes_to stmts k z x j count target s name o e long l none b is =
           let one : s ≡ b.stmt = same_stmt stmts x s b.stmt l.there (ap (slice_get stmts) same ∙ b.at) in
           absurd (not_some name (sym none ∙ ap (λ (t : Placed). label_of t.says) one ∙ b.says))
     ]
-
-ender_is : (s : Statement) → is_end s ≡ true → s ≡ end_procedure
-ender_is end_procedure e = refl
-ender_is _ e = absurd (let z : false ≡ true = e in cc)

@@ -15,13 +15,9 @@ use Rattle.il_built.specs.CheckedText.{of_procedure, given, instructions, post_o
 use Rattle.il_built.specs.CheckedText as text
 use Rattle.il_built.specs.Holding.{setting_at}
 use Rattle.il_built.proofs.CheckedLinesCounts.{owner_is, owner_next, next_line_is, behind_is, begins_cases}
-use Rattle.il_built.proofs.CheckedLinesUpto.{upto, Found, found, stands_in, ends_at, length_more, only}
+use Rattle.il_built.proofs.CheckedLinesGiven.{given_is, given_found}
+use Rattle.il_built.proofs.CheckedLinesUpto.{upto, stands_in, ends_at, length_more}
 use Rattle.il_built.proofs.VariablesCounted.{given_by, given_next, given_here, not_given, stands}
-
--- what is given is given number by number
-pub given_is : {A : Type 0} (give : ℕ → Statement → List A) (stmts : List Placed) (k n : ℕ) → given_by give stmts k n ≡ upto (of_procedure give stmts k) n
-given_is give stmts k zero = refl
-given_is give stmts k (suc n) = given_next give stmts k n ∙ ap (λ (xs : List _). xs ++ of_procedure give stmts k n) (given_is give stmts k n)
 
 -- a line is one instruction
 pub one_each : (s : Setting) (e : Expression) (target : ℕ) (x : Statement) → length (instructions s e target x) ≡ one_if (has_line x)
@@ -123,32 +119,15 @@ few false = omega arith
 one_at_most : (s : Setting) (e : Expression) (target : ℕ) (x : Statement) → length (instructions s e target x) ≤ 1
 one_at_most s e target x = let same = one_each s e target x in let one = few (has_line x) in omega (arith, same, one)
 
-found_by : (stmts : List Placed) (links : List Link) (k line_number : ℕ) (i : Instruction) (there : Found (gives_at stmts links k) (length stmts) line_number i)
-    → (s : Placed) → slice_get stmts there.at ≡ Some s → (owner stmts there.at ≡ k) ⊎ (owner stmts there.at ≢ k) → IsLineAt stmts links k line_number i
-found_by stmts links k line_number i there s at (inl own) =
-    let x = there.at in
-    let within : x < length stmts = there.below in
-    let low : x ≤ length stmts = omega arith in
-    let same : gives_at stmts links k x ≡ line_at stmts links k x s.says = given_here (line_at stmts links k) stmts k x s at (owner_is stmts x ∙ own) in
-    let one = only (line_at stmts links k x s.says) there.part i (one_at_most (setting_at stmts x) (post_of stmts k) (target_at links x) s.says)
-        (ap (λ (xs : List Instruction). slice_get xs there.part) (sym same) ∙ there.here) in
-    let long : length (lines_to stmts links k x) ≡ line stmts x = (numbered stmts links k x low).here own in
-    let first : there.part ≡ 0 = one.0 in
-    let place : length (lines_to stmts links k x) + there.part ≡ line_number = there.number in
-    let number : line stmts x ≡ line_number = omega (arith, long, first, place) in
-    record { at = x; stmt = s; there = at; own = own; gives = one.1; number = number }
-found_by stmts links k line_number i there s at (inr other) =
-    let none : gives_at stmts links k there.at ≡ [] = not_given (line_at stmts links k) stmts k there.at s at (λ e. other (sym (owner_is stmts there.at) ∙ e)) in
-    let z : ◌≡◌ {A = Option Instruction} None (Some i) = ap (λ (xs : List Instruction). slice_get xs there.part) (sym none) ∙ there.here in
-    absurd (cc)
-
 -- each line of a procedure is given by a statement of it
 pub line_found : (stmts : List Placed) (links : List Link) (k line_number : ℕ) (i : Instruction) → slice_get (text.lines_of stmts links k) line_number ≡ Some i
     → IsLineAt stmts links k line_number i
 line_found stmts links k line_number i e =
-    let there = found (gives_at stmts links k) (length stmts) line_number i (ap (λ (xs : List Instruction). slice_get xs line_number) (sym (lines_are stmts links k)) ∙ e) in
-    let s = stands stmts there.at there.below in
-    found_by stmts links k line_number i there s.0 s.1 (cases_eq (owner stmts there.at) k)
+    let g = given_found (line_at stmts links k) stmts k line_number i (λ n x. one_at_most (setting_at stmts n) (post_of stmts k) (target_at links n) x) e in
+    let within : g.at < length stmts = slice_get_within stmts g.at g.stmt g.there in
+    let low : g.at ≤ length stmts = omega arith in
+    let own : owner stmts g.at ≡ k = sym (owner_is stmts g.at) ∙ g.own in
+    record { at = g.at; stmt = g.stmt; there = g.there; own = own; gives = g.gives; number = sym ((numbered stmts links k g.at low).here own) ∙ g.number }
 
 is_one : (b : Bool) → 1 ≡ one_if b → b ≡ true
 is_one true e = refl

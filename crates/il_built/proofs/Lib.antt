@@ -15,6 +15,10 @@ pub mod WithoutFault
 pub mod CheckedPlaces
 pub mod PlacesHold
 pub mod CheckedExpressions
+pub mod CheckedLinesGiven
 pub mod CheckedLinesNumbered
 pub mod CheckedLinesEnd
 pub mod CheckedLinesJumps
+pub mod CheckedLinesReturns
+pub mod CheckedLinesFit
+pub mod CheckedLinesWhole
