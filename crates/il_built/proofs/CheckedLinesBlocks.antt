@@ -1,5 +1,5 @@
 -- In a text without a fault each closer fits the block that is open there.
-use Rattle.std.proofs.Common.{◌≡◌, ◌+◌, ◌<◌, ◌≤◌, ℕ, zero, suc, Bool, true, false, List, [], ◌∷◌, ◌++◌, length, take, drop, refl, sym, ◌∙◌, ap, subst, inl, inr, append_assoc, append-nil, arith, if◌then◌else◌}
+use Rattle.std.proofs.Common.{◌≡◌, ◌<◌, ◌≤◌, ℕ, zero, suc, Bool, true, false, List, [], ◌∷◌, ◌++◌, length, take, drop, refl, sym, ◌∙◌, ap, subst, inl, inr, append_assoc, append-nil, arith, if◌then◌else◌}
 use Rattle.std.specs.Prelude.{Option, Some, None, slice_get}
 use Rattle.std.specs.Option.{option_and_then}
 use Rattle.std.proofs.lemmas.Bool.{cases_lt}
@@ -7,7 +7,7 @@ use Rattle.std.proofs.lemmas.Option.{slice_get_within}
 use Rattle.il_core.specs.Statement.{Placed}
 use Rattle.il_blocks.specs.declared.block.Kind.{Kind}
 use Rattle.il_blocks.specs.declared.block.Closer.{Closer}
-use Rattle.il_blocks.specs.Block.{fits, Bracket, opening, closing, closings, openings, brackets, brackets_of, opened_by, closed_by, Opens, ClosesNothing}
+use Rattle.il_blocks.specs.Block.{fits, Bracket, opening, closing, closings, openings, brackets, brackets_of, opened_by, closed_by, ClosesNothing}
 use Rattle.il_blocks.specs.BlockFault.{HasNoFault}
 use Rattle.il_blocks.specs.BlockLink.{between, Pairs}
 use Rattle.il_blocks.proofs.BlockNest.{scan, scan_append, opens_scanned}
@@ -19,11 +19,11 @@ not_some : {A : Type 0} (x : A) → ◌≡◌ {A = Option A} None (Some x) → �
 not_some x e = cc
 
 -- the innermost open block, which a closer fits
-pub record Top (c : Closer) (ks : List Kind) : Type 0 where
-  pub kind : Kind
-  pub others : List Kind
-  pub is : ks ≡ kind ∷ others
-  pub fit : fits c kind ≡ true
+record Top (c : Closer) (ks : List Kind) : Type 0 where
+  kind : Kind
+  others : List Kind
+  is : ks ≡ kind ∷ others
+  fit : fits c kind ≡ true
 
 -- a closer that is not loose fits the innermost open block
 top_of : (front : List Bracket) (c : Closer) (ks : List Kind) → scan front [] ≡ Some ks → (ClosesNothing front (Some c) → ⊥) → Top c ks
@@ -39,7 +39,8 @@ top_of front c (k ∷ ks) e not_loose = by (fits c k) refl
         let y : true ≡ false = sym g ∙ ap (fits c) same ∙ f in
         cc))
 
-pub top : (ss : List Placed) (i : ℕ) (s : Placed) (c : Closer) (ks : List Kind) → HasNoFault ss → slice_get ss i ≡ Some s → closed_by s.says ≡ Some c
+-- so does a closer of a text without a fault
+top : (ss : List Placed) (i : ℕ) (s : Placed) (c : Closer) (ks : List Kind) → HasNoFault ss → slice_get ss i ≡ Some s → closed_by s.says ≡ Some c
     → scan (brackets (take i ss)) [] ≡ Some ks → Top c ks
 top ss i s c ks n at closes e =
     top_of (brackets (take i ss)) c ks e
@@ -50,6 +51,7 @@ openings_scan : (b : Option Kind) (ks : List Kind) → (js : List Kind) × (scan
 openings_scan None ks = (ks, refl)
 openings_scan (Some k) ks = (k ∷ ks, refl)
 
+-- closers that fit, and what comes behind them
 closings_scan : (a : Option Closer) (bs : List Bracket) (ks : List Kind) → ((c : Closer) → a ≡ Some c → Top c ks) → ((is : List Kind) → (js : List Kind) × (scan bs is ≡ Some js))
     → (js : List Kind) × (scan (closings a ++ bs) ks ≡ Some js)
 closings_scan None bs ks t rest = rest ks
@@ -71,16 +73,17 @@ open_at ss n (suc i) h =
     let js = closings_scan (closed_by s.0.says) (openings (opened_by s.0.says)) ks.0 (λ c f. top ss i s.0 c ks.0 n s.1 f ks.1) (λ is. openings_scan (opened_by s.0.says) is) in (
       js.0,
       ap (λ (bs : List Bracket). scan bs []) (front_next ss i s.0 s.1) ∙ scan_append (brackets (take i ss)) (brackets_of s.0.says) []
-      ∙ ap (option_and_then (scan (brackets_of s.0.says))) ks.1 ∙ js.1,
+          ∙ ap (option_and_then (scan (brackets_of s.0.says))) ks.1 ∙ js.1,
     )
 
+-- nothing stands between a statement and the next
 none_between : (n : ℕ) (ss : List Placed) → drop n (take n ss) ≡ []
 none_between zero ss = refl
 none_between (suc n) [] = refl
 none_between (suc n) (x ∷ xs) = none_between n xs
 
 -- the brackets before a statement, about one before it
-pub front_split : (ss : List Placed) (i j : ℕ) (s : Placed) → i < j → j ≤ length ss → slice_get ss i ≡ Some s
+front_split : (ss : List Placed) (i j : ℕ) (s : Placed) → i < j → j ≤ length ss → slice_get ss i ≡ Some s
     → brackets (take j ss) ≡ brackets (take i ss) ++ (brackets_of s.says ++ between ss i j)
 front_split ss i zero s h l at = absurd (omega (arith, h))
 front_split ss i (suc j) s h l at = elim (cases_lt i j) [
@@ -91,13 +94,13 @@ front_split ss i (suc j) s h l at = elim (cases_lt i j) [
       front_next ss j t.0 t.1 ∙ ap (λ (bs : List Bracket). bs ++ brackets_of t.0.says) (front_split ss i j s less low at)
       ∙ append_assoc (brackets (take i ss)) (brackets_of s.says ++ between ss i j) (brackets_of t.0.says)
       ∙ ap (λ (bs : List Bracket). brackets (take i ss) ++ bs)
-          (append_assoc (brackets_of s.says) (between ss i j) (brackets_of t.0.says) ∙ ap (λ (bs : List Bracket). brackets_of s.says ++ bs) (sym (between_next ss i j t.0 less t.1)))
+      (append_assoc (brackets_of s.says) (between ss i j) (brackets_of t.0.says) ∙ ap (λ (bs : List Bracket). brackets_of s.says ++ bs) (sym (between_next ss i j t.0 less t.1)))
   | inr more ↦
       let same : j ≡ i = omega arith in
       ap (λ (k : ℕ). brackets (take (suc k) ss)) same ∙ front_next ss i s at
       ∙ ap (λ (bs : List Bracket). brackets (take i ss) ++ bs)
-          (sym (append-nil (brackets_of s.says)) ∙ ap (λ (xs : List Placed). brackets_of s.says ++ brackets xs) (sym (none_between (suc i) ss))
-          ∙ ap (λ (k : ℕ). brackets_of s.says ++ between ss i (suc k)) (sym same))
+      (sym (append-nil (brackets_of s.says)) ∙ ap (λ (xs : List Placed). brackets_of s.says ++ brackets xs) (sym (none_between (suc i) ss))
+      ∙ ap (λ (k : ℕ). brackets_of s.says ++ between ss i (suc k)) (sym same))
 ]
 
 -- a block that was opened is still open behind what is open inside it
@@ -118,6 +121,7 @@ still_open xs a k ys is js f e = by (scan (xs ++ closings a) []) parts
         let same : js ≡ is ++ k ∷ ks = cc in
         (ks, same)
 
+-- so is that which a statement opened
 pub opened_still : (ss : List Placed) (i j : ℕ) (s : Placed) (k : Kind) (is js : List Kind) → i < j → j ≤ length ss → slice_get ss i ≡ Some s → opened_by s.says ≡ Some k
     → scan (between ss i j) [] ≡ Some is → scan (brackets (take j ss)) [] ≡ Some js → (ks : List Kind) × (js ≡ is ++ k ∷ ks)
 opened_still ss i j s k is js h l at opens f e =

@@ -1,6 +1,6 @@
 -- The lines of a procedure end with its ENDPROC, to which each other line goes on.
-use Rattle.std.proofs.Common.{◌≡◌, ◌≢◌, ◌⊎◌, ℕ, zero, suc, ◌+◌, ◌<◌, ◌≤◌, ◌∙◌, sym, ap, refl, inl, inr, Bool, true, false, List, length, arith}
-use Rattle.std.specs.Prelude.{Option, Some, None, slice_get}
+use Rattle.std.proofs.Common.{◌≡◌, ◌⊎◌, ℕ, suc, ◌+◌, ◌<◌, ◌≤◌, ◌∙◌, sym, ap, refl, inl, inr, Bool, true, false, List, length, arith}
+use Rattle.std.specs.Prelude.{Option, Some, slice_get}
 use Rattle.std.proofs.lemmas.Bool.{cases_lt}
 use Rattle.std.proofs.lemmas.Option.{slice_get_within}
 use Rattle.il_core.specs.Checked.{IsTarget}
@@ -29,9 +29,11 @@ pub record IsEndOf (stmts : List Placed) (k z : ℕ) : Type 0 where
   pub says : stmt.says ≡ end_procedure
   pub behind : ended stmts (suc z) ≡ k
 
+-- a line of a text in order stands in its procedure
 pub line_inside : (stmts : List Placed) (k x : ℕ) (s : Placed) → IsInOrder stmts → IsLineOf stmts k x s → Inside s.says (owner stmts x) (ended stmts x) (line stmts x)
 line_inside stmts k x s o l = inside stmts o x s (slice_get_within stmts x s l.there) l.there l.has
 
+-- ENDPROC alone ends a procedure
 ends_one : (s : Statement) → ends s ≡ 1 → s ≡ end_procedure
 ends_one end_procedure e = refl
 ends_one _ e = absurd (omega (arith, e))
@@ -84,7 +86,7 @@ lines_counted stmts links k z o e = lines_end stmts links k z e.stmt e.is_line.t
     by y t h there own has = let low : y ≤ z = none_behind stmts k z y t o e (record { there = there; own = own; has = has }) in omega (arith, h, low)
 
 -- a line is above those before it in its procedure
-pub lines_rise : (stmts : List Placed) (k x y : ℕ) (s t : Placed) → IsLineOf stmts k x s → IsLineOf stmts k y t → x < y → line stmts x < line stmts y
+lines_rise : (stmts : List Placed) (k x y : ℕ) (s t : Placed) → IsLineOf stmts k x s → IsLineOf stmts k y t → x < y → line stmts x < line stmts y
 lines_rise stmts k x y s t l m h =
     let within : y < length stmts = slice_get_within stmts y t m.there in
     let low : y ≤ length stmts = omega arith in
@@ -92,7 +94,7 @@ lines_rise stmts k x y s t l m h =
     omega (arith, above)
 
 -- each line is one of as many as are counted
-pub line_within : (stmts : List Placed) (k z x : ℕ) (s : Placed) → IsInOrder stmts → IsEndOf stmts k z → IsLineOf stmts k x s → line stmts x ≤ line stmts z
+line_within : (stmts : List Placed) (k z x : ℕ) (s : Placed) → IsInOrder stmts → IsEndOf stmts k z → IsLineOf stmts k x s → line stmts x ≤ line stmts z
 line_within stmts k z x s o e l =
     let low : x ≤ z = none_behind stmts k z x s o e l in
     elim (cases_lt x z) [
@@ -137,10 +139,11 @@ end_last stmts k z x s o e l says =
     let same : x ≡ z = omega (arith, low, high) in
     ap (line stmts) same
 
--- PRE is line 0, all other lines come behind it
+-- PRE is line 0
 pub line_first : (stmts : List Placed) (k x : ℕ) (s : Placed) → IsInOrder stmts → IsLineOf stmts k x s → is_pre s.says ≡ true → line stmts x ≡ 0
 line_first stmts k x s o l e = (line_inside stmts k x s o l).first e
 
+-- all other lines come behind it
 pub line_later : (stmts : List Placed) (k x : ℕ) (s : Placed) → IsInOrder stmts → IsLineOf stmts k x s → is_pre s.says ≡ false → 1 ≤ line stmts x
 line_later stmts k x s o l e = (line_inside stmts k x s o l).later e
 

@@ -1,8 +1,8 @@
 -- Each line of a procedure fits where it stands.
-use Rattle.std.proofs.Common.{◌≡◌, ◌≢◌, ◌⊎◌, ℕ, zero, suc, ◌+◌, ◌<◌, ◌≤◌, ◌∙◌, sym, ap, subst, refl, inl, inr, Bool, true, false, List, [], ◌∷◌, length, arith}
-use Rattle.std.specs.Prelude.{Option, Some, None, slice_get}
+use Rattle.std.proofs.Common.{◌≡◌, ℕ, ◌+◌, ◌<◌, ◌≤◌, ◌∙◌, ap, subst, refl, inl, true, false, List, [], ◌∷◌, length, arith}
+use Rattle.std.specs.Prelude.{Some, None, slice_get}
 use Rattle.il_core.specs.Checked.{IsSoundCondition, FitsAt}
-use Rattle.il_core.specs.Expression.{Expression, truth}
+use Rattle.il_core.specs.Expression.{Expression}
 use Rattle.il_core.specs.Procedure.{Instruction}
 use Rattle.il_core.specs.Procedure as line
 use Rattle.il_core.specs.Statement.{Statement, Placed, pre, post, assign, if_true, otherwise, end_if, loop, end_loop, exit, exit_when, label, goto, skip, assert, return, end_procedure}
@@ -18,14 +18,12 @@ use Rattle.il_types.specs.Built.{assigned_place, built}
 use Rattle.il_types.specs.Names.{Setting}
 use Rattle.il_types.specs.Rules.{Answers}
 use Rattle.il_built.specs.CheckedText.{given, places_of, posted, first_condition, post_of, instructions, target_at}
-use Rattle.il_built.specs.CheckedText as text
 use Rattle.il_built.specs.Holding.{setting_at}
 use Rattle.il_built.proofs.CheckedExpressions.{condition_in, condition_sound, assignment_sound}
 use Rattle.il_built.proofs.CheckedLinesCounts.{owner_is}
-use Rattle.il_built.proofs.CheckedLinesEnd.{IsLineOf, IsEndOf, lines_counted, before_end, line_before, end_last, line_first, target_line}
+use Rattle.il_built.proofs.CheckedLinesEnd.{IsLineOf, IsEndOf, before_end, line_before, end_last, line_first, target_line}
 use Rattle.il_built.proofs.CheckedLinesGiven.{given_found}
 use Rattle.il_built.proofs.CheckedLinesJumps.{goes_on, ends_block, begins_block, leaves_loop, goes_to}
-use Rattle.il_built.proofs.CheckedLinesNumbered.{IsLineAt, has_one}
 use Rattle.il_built.proofs.CheckedLinesOrder.{is_pre}
 use Rattle.il_built.proofs.CheckedLinesReturns.{returns_to, linked}
 
@@ -38,12 +36,13 @@ posted_few : (s : Setting) (x : Statement) → length (posted s x) ≤ 1
 posted_few s (post d) = omega arith
 posted_few s _ = omega arith
 
+-- the first of some sound conditions, or none, is sound
 sound_first : (places : List Place) (es : List Expression) → ((e : Expression) → slice_get es 0 ≡ Some e → IsSoundCondition places e) → IsSoundCondition places (first_condition es)
 sound_first places [] h = record { typed = tt; narrow = tt }
 sound_first places (e ∷ es) h = h e refl
 
 -- the condition of the POST of a procedure is sound
-pub post_sound : (stmts : List Placed) (k : ℕ) → IsInOrder stmts → Answers stmts None → IsSoundCondition (places_of stmts k) (post_of stmts k)
+post_sound : (stmts : List Placed) (k : ℕ) → IsInOrder stmts → Answers stmts None → IsSoundCondition (places_of stmts k) (post_of stmts k)
 post_sound stmts k o a = sound_first (places_of stmts k) (given (λ i x. posted (setting_at stmts i) x) stmts k) each
   where
     each : (e : Expression) → slice_get (given (λ i x. posted (setting_at stmts i) x) stmts k) 0 ≡ Some e → IsSoundCondition (places_of stmts k) e
@@ -82,8 +81,7 @@ line_fits stmts links k z x count s i o ls a e long l g = by s.says refl g
         put (line.assign (assigned_place (setting_at stmts x) name) (built (setting_at stmts x) d))
         (more (assign name d) says refl, assignment_sound stmts k x s name d o a l.there (owner_is stmts x ∙ l.own) says) h
     by (if_true d) says h =
-        put (line.if_true (built (setting_at stmts x) d) (target_at links x))
-        (
+        put (line.if_true (built (setting_at stmts x) d) (target_at links x)) (
           more (if_true d) says refl,
           goes_on stmts k z x count (target_at links x) s o ls.matched e long l (ap begins says) (target (if_true d) says refl),
           sound d (ap condition_in says),
@@ -99,8 +97,7 @@ line_fits stmts links k z x count s i o ls a e long l g = by s.says refl g
     by exit says h =
         put (line.exit (target_at links x)) (leaves_loop stmts k z x count (target_at links x) s o ls.matched e long l (ap closed_by says) (target exit says refl)) h
     by (exit_when d) says h =
-        put (line.exit_when (built (setting_at stmts x) d) (target_at links x))
-        (
+        put (line.exit_when (built (setting_at stmts x) d) (target_at links x)) (
           more (exit_when d) says refl,
           leaves_loop stmts k z x count (target_at links x) s o ls.matched e long l (ap closed_by says) (target (exit_when d) says refl),
           sound d (ap condition_in says),

@@ -1,5 +1,5 @@
 -- What the statements of a procedure give, each at most one value.
-use Rattle.std.proofs.Common.{◌≡◌, ◌≢◌, ◌⊎◌, ℕ, zero, suc, ◌+◌, ◌<◌, ◌≤◌, ◌∙◌, sym, ap, refl, inl, inr, List, [], ◌∷◌, ◌++◌, length, arith}
+use Rattle.std.proofs.Common.{◌≡◌, ◌≢◌, ◌⊎◌, ℕ, zero, suc, ◌+◌, ◌≤◌, ◌∙◌, sym, ap, refl, inl, inr, List, [], ◌∷◌, ◌++◌, length, arith}
 use Rattle.std.specs.Prelude.{Option, Some, None, slice_get}
 use Rattle.std.proofs.lemmas.Bool.{cases_eq}
 use Rattle.il_core.specs.Statement.{Statement, Placed}
@@ -36,6 +36,7 @@ found_by give stmts k n a few f s at (inr other) =
     let z : ◌≡◌ {A = Option _} None (Some a) = ap (λ (xs : List _). slice_get xs f.part) (sym (not_given give stmts k f.at s at other)) ∙ f.here in
     absurd (cc)
 
+-- each value is given by one
 pub given_found : {A : Type 0} (give : ℕ → Statement → List A) (stmts : List Placed) (k n : ℕ) (a : A) → ((i : ℕ) (x : Statement) → length (give i x) ≤ 1)
     → slice_get (given give stmts k) n ≡ Some a → IsGiven give stmts k n a
 given_found give stmts k n a few e =

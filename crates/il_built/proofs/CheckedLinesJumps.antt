@@ -1,27 +1,22 @@
 -- Each line that names another jumps to a line of its procedure.
-use Rattle.std.proofs.Common.{◌≡◌, ◌⊎◌, ℕ, zero, suc, ◌+◌, ◌<◌, ◌≤◌, ◌∙◌, sym, ap, subst, refl, inl, inr, Bool, true, false, List, [], ◌∷◌, ◌++◌, length, drop, arith, if◌then◌else◌}
+use Rattle.std.proofs.Common.{◌≡◌, ◌⊎◌, ℕ, ◌+◌, ◌<◌, ◌≤◌, ◌∙◌, sym, ap, subst, refl, inl, inr, Bool, true, false, List, [], ◌++◌, arith, if◌then◌else◌}
 use Rattle.std.specs.Prelude.{Option, Some, None, slice_get}
-use Rattle.std.proofs.lemmas.Bool.{cases_lt, cases_order}
-use Rattle.std.proofs.lemmas.Option.{slice_get_within, slice_get-get_or}
+use Rattle.std.proofs.lemmas.Bool.{cases_order}
 use Rattle.il_core.specs.Checked.{IsTarget}
-use Rattle.il_core.specs.Statement.{Statement, Placed, procedure, pre, if_true, otherwise, end_if, loop, end_loop, exit, exit_when, label, goto, return, end_procedure}
-use Rattle.il_core.specs.declared.statement.Link.{Link}
-use Rattle.il_core.specs.declared.statement.Link.TheVariants as link
+use Rattle.il_core.specs.Statement.{Statement, Placed, procedure, if_true, otherwise, end_if, loop, end_loop, label, end_procedure}
 use Rattle.il_syntax.specs.Order.{IsInOrder}
 use Rattle.il_blocks.specs.declared.block.Kind.{Kind}
 use Rattle.il_blocks.specs.declared.block.Kind.TheVariants as kind
 use Rattle.il_blocks.specs.declared.block.Closer.{Closer}
 use Rattle.il_blocks.specs.declared.block.Closer.TheVariants as closer
-use Rattle.il_blocks.specs.Block.{fits, Bracket, closing, closings, openings, brackets_of, opened_by, closed_by}
+use Rattle.il_blocks.specs.Block.{fits, Bracket, closings, openings, brackets_of, opened_by, closed_by}
 use Rattle.il_blocks.specs.BlockFault.{HasNoFault}
 use Rattle.il_blocks.specs.BlockLabel.{begins, owner, label_of, IsLabel}
-use Rattle.il_blocks.specs.BlockLink.{between, Pairs, Surrounds, has_line, line, is_end, is_else, end_line, GoesOnAt, LeavesTo}
-use Rattle.il_blocks.proofs.BlockLines.{end_next}
+use Rattle.il_blocks.specs.BlockLink.{between, Pairs, Surrounds, has_line, line, is_end, is_else, GoesOnAt, LeavesTo}
 use Rattle.il_blocks.proofs.BlockNest.{scan, opens_scanned, wholes_scan}
 use Rattle.il_blocks.proofs.BlockOne.{between_split}
 use Rattle.il_built.proofs.CheckedLinesBlocks.{pair_fits}
-use Rattle.il_built.proofs.CheckedLinesCounts.{owner_rises}
-use Rattle.il_built.proofs.CheckedLinesEnd.{IsLineOf, IsEndOf, none_behind, target_line, target_behind}
+use Rattle.il_built.proofs.CheckedLinesEnd.{IsLineOf, IsEndOf, target_line, target_behind}
 use Rattle.il_built.proofs.CheckedLinesNested.{same_owner}
 use Rattle.il_built.proofs.CheckedLinesOrder.{is_pre}
 
@@ -83,7 +78,8 @@ pub record IsInner (stmts : List Placed) (k i j : ℕ) (s t : Placed) : Type 0 w
   pub unended : is_end t.says ≡ false
   pub before : i < j
 
-pub inner_pair : (stmts : List Placed) (i j : ℕ) → IsInOrder stmts → HasNoFault stmts → (p : Pairs stmts i j) → begins p.opener.says ≡ 0 → IsInner stmts (owner stmts i) i j p.opener p.ender
+-- so are those of a pair whose first one is no PROC
+inner_pair : (stmts : List Placed) (i j : ℕ) → IsInOrder stmts → HasNoFault stmts → (p : Pairs stmts i j) → begins p.opener.says ≡ 0 → IsInner stmts (owner stmts i) i j p.opener p.ender
 inner_pair stmts i j o n p b =
     let from = opener_line p.opener.says p.kind p.opens b in
     let to = closer_line p.ender.says p.closer p.closes in
@@ -98,6 +94,7 @@ inner_pair stmts i j o n p b =
       before = p.before;
     }
 
+-- one statement stands at a number
 same_stmt : (stmts : List Placed) (x : ℕ) (s t : Placed) → slice_get stmts x ≡ Some s → slice_get stmts x ≡ Some t → s ≡ t
 same_stmt stmts x s t e f = let z : ◌≡◌ {A = Option Placed} (Some s) (Some t) = sym e ∙ f in cc
 

@@ -1,5 +1,5 @@
 -- No procedure begins inside a block of another.
-use Rattle.std.proofs.Common.{◌≡◌, ◌⊎◌, ◌+◌, ◌<◌, ◌≤◌, not, ℕ, zero, suc, Bool, true, false, List, [], ◌∷◌, ◌++◌, length, take, drop, refl, sym, ◌∙◌, ap, subst, inl, inr, arith, if◌then◌else◌}
+use Rattle.std.proofs.Common.{◌≡◌, ◌⊎◌, ◌+◌, ◌<◌, ◌≤◌, ℕ, zero, suc, Bool, true, false, List, [], ◌∷◌, ◌++◌, length, take, drop, refl, sym, ◌∙◌, ap, subst, inl, inr, arith, if◌then◌else◌}
 use Rattle.std.specs.Prelude.{Option, Some, None, slice_get}
 use Rattle.std.specs.Option.{option_and_then}
 use Rattle.std.proofs.lemmas.Bool.{cases_lt}
@@ -26,6 +26,7 @@ use Rattle.il_built.proofs.VariablesCounted.{stands}
 not_some : {A : Type 0} (x : A) → ◌≡◌ {A = Option A} None (Some x) → ⊥
 not_some x e = cc
 
+-- no block is open
 abbrev is_none : List Kind → Bool
 is_none [] = true
 is_none (k ∷ ks) = false
@@ -67,6 +68,7 @@ closes_all (kind.Procedure ∷ ks) js p e =
     sym same ∙ none_is ks p
 closes_all (_ ∷ ks) js p e = absurd (not_some js e)
 
+-- a scan of one bracket, and of one and an opener, by its steps
 last_one : (o : Option (List Kind)) (js : List Kind) → option_and_then (scan []) o ≡ Some js → o ≡ Some js
 last_one None js e = e
 last_one (Some ks) js e = e
@@ -104,9 +106,11 @@ pub record Nested (ss : List Placed) (i : ℕ) : Type 0 where
   pub open_blocks : scan (brackets (take i ss)) [] ≡ Some blocks
   pub balanced : Balanced within blocks
 
+-- a statement takes its turn
 turns_here : (ss : List Placed) (i : ℕ) (s : Placed) (b : Bool) → slice_get ss i ≡ Some s → TakeTurns b (drop i ss) → (may_stand s.says b ≡ true) × TakeTurns (turned s.says b) (drop (suc i) ss)
 turns_here ss i s b at t = subst (TakeTurns b) (drop_here ss i s at) t
 
+-- before each statement of a text in order without a fault the open blocks are balanced
 nested_at : (ss : List Placed) → IsInOrder ss → HasNoFault ss → (i : ℕ) → i ≤ length ss → Nested ss i
 nested_at ss o n zero h = record { within = false; turns = take_turns ss o; blocks = []; open_blocks = refl; balanced = refl }
 nested_at ss o n (suc i) h =
@@ -156,7 +160,7 @@ begins_not ss i m j s o n p h l at begin =
     let within : m < length ss = slice_get_within ss m s at in
     let low : m ≤ length ss = omega arith in
     let front = scan_front (between ss i m) (brackets_of s.says ++ between ss m j) []
-        (ap (λ (bs : List Bracket). scan bs []) (sym (between_split ss i m j s h l at)) ∙ opens_scanned (between ss i j) [] p.inner) in
+    (ap (λ (bs : List Bracket). scan bs []) (sym (between_split ss i m j s h l at)) ∙ opens_scanned (between ss i j) [] p.inner) in
     let still = opened_still ss i m p.opener p.kind front.0 [] h low p.from p.opens front.1 (none_open ss m s o n at begin) in
     not_empty front.0 still.0 p.kind still.1
   where

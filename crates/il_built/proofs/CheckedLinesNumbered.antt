@@ -1,6 +1,6 @@
 -- The lines of a procedure: a statement that is a line stands among them at its line.
-use Rattle.std.proofs.Common.{◌≡◌, ◌≢◌, ◌⊎◌, ℕ, zero, suc, ◌+◌, ◌<◌, ◌≤◌, ◌∙◌, sym, ap, subst, refl, inl, inr, Bool, true, false, List, [], ◌∷◌, ◌++◌, length, arith, if◌then◌else◌}
-use Rattle.std.specs.Prelude.{Option, Some, None, slice_get}
+use Rattle.std.proofs.Common.{◌≡◌, ◌≢◌, ◌⊎◌, ℕ, zero, suc, ◌+◌, ◌<◌, ◌≤◌, ◌∙◌, sym, ap, refl, inl, inr, Bool, true, false, List, [], ◌∷◌, length, arith, if◌then◌else◌}
+use Rattle.std.specs.Prelude.{Some, slice_get}
 use Rattle.std.proofs.lemmas.Bool.{cases_eq}
 use Rattle.std.proofs.lemmas.Option.{slice_get_within}
 use Rattle.il_core.specs.Expression.{Expression}
@@ -10,17 +10,17 @@ use Rattle.il_core.specs.declared.statement.Link.{Link}
 use Rattle.il_blocks.specs.BlockLabel.{begins, owner}
 use Rattle.il_blocks.specs.BlockLink.{has_line, line_behind, line}
 use Rattle.il_types.specs.Counts.{one_if}
-use Rattle.il_types.specs.Names.{Setting, counts_at}
+use Rattle.il_types.specs.Names.{Setting}
 use Rattle.il_built.specs.CheckedText.{of_procedure, given, instructions, post_of, target_at}
 use Rattle.il_built.specs.CheckedText as text
 use Rattle.il_built.specs.Holding.{setting_at}
 use Rattle.il_built.proofs.CheckedLinesCounts.{owner_is, owner_next, next_line_is, behind_is, begins_cases}
 use Rattle.il_built.proofs.CheckedLinesGiven.{given_is, given_found}
 use Rattle.il_built.proofs.CheckedLinesUpto.{upto, stands_in, ends_at, length_more}
-use Rattle.il_built.proofs.VariablesCounted.{given_by, given_next, given_here, not_given, stands}
+use Rattle.il_built.proofs.VariablesCounted.{given_here, not_given, stands}
 
 -- a line is one instruction
-pub one_each : (s : Setting) (e : Expression) (target : ℕ) (x : Statement) → length (instructions s e target x) ≡ one_if (has_line x)
+one_each : (s : Setting) (e : Expression) (target : ℕ) (x : Statement) → length (instructions s e target x) ≡ one_if (has_line x)
 one_each s e target (procedure _) = refl
 one_each s e target _ = refl
 
@@ -36,7 +36,8 @@ gives_at stmts links k i = of_procedure (line_at stmts links k) stmts k i
 abbrev pub lines_to : List Placed → List Link → ℕ → ℕ → List Instruction
 lines_to stmts links k n = upto (gives_at stmts links k) n
 
-pub lines_are : (stmts : List Placed) (links : List Link) (k : ℕ) → text.lines_of stmts links k ≡ lines_to stmts links k (length stmts)
+-- all statements give the lines of the procedure
+lines_are : (stmts : List Placed) (links : List Link) (k : ℕ) → text.lines_of stmts links k ≡ lines_to stmts links k (length stmts)
 lines_are stmts links k = given_is (line_at stmts links k) stmts k (length stmts)
 
 -- in front of a procedure there are none of its lines, in it there are as many as the next line says
@@ -48,6 +49,7 @@ one_more : (n : ℕ) (b : Bool) → n + one_if b ≡ (if b then n + 1 else n)
 one_more n true = refl
 one_more n false = omega arith
 
+-- the lines up to the next statement are numbered if those before it are
 next : (stmts : List Placed) (links : List Link) (k i : ℕ) (s : Placed) → slice_get stmts i ≡ Some s → AreNumbered stmts links k i → AreNumbered stmts links k (suc i)
 next stmts links k i s at f = record {
   before = λ less.
@@ -82,7 +84,8 @@ next stmts links k i s at f = record {
         let first : line stmts (suc i) ≡ 0 = next_line_is stmts i s at ∙ one.1 (line stmts i) in
         omega (arith, more, none, zero_before, first)
 
-pub numbered : (stmts : List Placed) (links : List Link) (k i : ℕ) → i ≤ length stmts → AreNumbered stmts links k i
+-- so they are before each statement
+numbered : (stmts : List Placed) (links : List Link) (k i : ℕ) → i ≤ length stmts → AreNumbered stmts links k i
 numbered stmts links k zero h = record { before = λ less. refl; here = λ same. refl }
 numbered stmts links k (suc i) h =
     let within : i < length stmts = omega (arith, h) in

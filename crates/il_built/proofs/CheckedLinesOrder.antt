@@ -18,7 +18,7 @@ not_some : {A : Type 0} (x : A) → ◌≡◌ {A = Option A} None (Some x) → �
 not_some x e = cc
 
 -- at a stage so many procedures have begun and ended, and this is the next line
-abbrev pub Fits : Stage → ℕ → ℕ → ℕ → Type 0
+abbrev Fits : Stage → ℕ → ℕ → ℕ → Type 0
 Fits at.Start begun done line = (begun ≡ 0) × (done ≡ 0)
 Fits at.Declarations begun done line = (begun ≡ 0) × (done ≡ 0)
 Fits at.Variables begun done line = (begun ≡ done + 1) × (line ≡ 0)
@@ -43,6 +43,7 @@ part_line n part.Body = n + 1
 part_line n part.Closing = n + 1
 part_line n _ = n
 
+-- they are those of its statement
 begins_is : (s : Statement) → part_begins (part_of s) ≡ begins s
 begins_is (procedure _) = refl
 begins_is _ = refl
@@ -55,25 +56,28 @@ line_is : (n : ℕ) (s : Statement) → part_line n (part_of s) ≡ line_behind 
 line_is n (procedure _) = refl
 line_is n _ = refl
 
--- past a part that may stand there
+reached : (stage after : Stage) (b d n : ℕ) → Some stage ≡ Some after → Fits stage b d n → Fits after b d n
+reached stage after b d n e f = let same : stage ≡ after = cc in subst (λ (s : Stage). Fits s b d n) same f
+
+-- the numbers before a part that may stand there fit the stage behind it
 part_step : (stage : Stage) (p : Part) (after : Stage) (b d n : ℕ) → next stage p ≡ Some after → Fits stage b d n → Fits after (b + part_begins p) (d + part_ends p) (part_line n p)
-part_step at.Start part.Title after b d n e f = let same : at.Declarations ≡ after = cc in subst (λ (s : Stage). Fits s (b + 0) (d + 0) n) same (omega (arith, f.0), omega (arith, f.1))
-part_step at.Declarations part.Declaration after b d n e f = let same : at.Declarations ≡ after = cc in subst (λ (s : Stage). Fits s (b + 0) (d + 0) n) same (omega (arith, f.0), omega (arith, f.1))
-part_step at.Declarations part.Opening after b d n e f = let same : at.Variables ≡ after = cc in subst (λ (s : Stage). Fits s (b + 1) (d + 0) 0) same (omega (arith, f.0, f.1), refl)
-part_step at.Variables part.Variable after b d n e f = let same : at.Variables ≡ after = cc in subst (λ (s : Stage). Fits s (b + 0) (d + 0) n) same (omega (arith, f.0), f.1)
-part_step at.Variables part.Precondition after b d n e f = let same : at.Postcondition ≡ after = cc in subst (λ (s : Stage). Fits s (b + 0) (d + 0) (n + 1)) same (omega (arith, f.0), omega (arith, f.1))
-part_step at.Postcondition part.Postcondition after b d n e f = let same : at.Body ≡ after = cc in subst (λ (s : Stage). Fits s (b + 0) (d + 0) n) same (omega (arith, f.0), omega (arith, f.1))
-part_step at.Body part.Body after b d n e f = let same : at.Body ≡ after = cc in subst (λ (s : Stage). Fits s (b + 0) (d + 0) (n + 1)) same (omega (arith, f.0), omega (arith, f.1))
-part_step at.Body part.Closing after b d n e f = let same : at.Procedures ≡ after = cc in subst (λ (s : Stage). Fits s (b + 0) (d + 1) (n + 1)) same (omega (arith, f.0), omega (arith, f.0))
-part_step at.Procedures part.Opening after b d n e f = let same : at.Variables ≡ after = cc in subst (λ (s : Stage). Fits s (b + 1) (d + 0) 0) same (omega (arith, f.0), refl)
-part_step at.Procedures part.Finish after b d n e f = let same : at.Done ≡ after = cc in subst (λ (s : Stage). Fits s (b + 0) (d + 0) n) same (omega (arith, f.0), omega (arith, f.1))
+part_step at.Start part.Title after b d n e f = reached at.Declarations after (b + 0) (d + 0) n e (omega (arith, f.0), omega (arith, f.1))
+part_step at.Declarations part.Declaration after b d n e f = reached at.Declarations after (b + 0) (d + 0) n e (omega (arith, f.0), omega (arith, f.1))
+part_step at.Declarations part.Opening after b d n e f = reached at.Variables after (b + 1) (d + 0) 0 e (omega (arith, f.0, f.1), refl)
+part_step at.Variables part.Variable after b d n e f = reached at.Variables after (b + 0) (d + 0) n e (omega (arith, f.0), f.1)
+part_step at.Variables part.Precondition after b d n e f = reached at.Postcondition after (b + 0) (d + 0) (n + 1) e (omega (arith, f.0), omega (arith, f.1))
+part_step at.Postcondition part.Postcondition after b d n e f = reached at.Body after (b + 0) (d + 0) n e (omega (arith, f.0), omega (arith, f.1))
+part_step at.Body part.Body after b d n e f = reached at.Body after (b + 0) (d + 0) (n + 1) e (omega (arith, f.0), omega (arith, f.1))
+part_step at.Body part.Closing after b d n e f = reached at.Procedures after (b + 0) (d + 1) (n + 1) e (omega (arith, f.0), omega (arith, f.0))
+part_step at.Procedures part.Opening after b d n e f = reached at.Variables after (b + 1) (d + 0) 0 e (omega (arith, f.0), refl)
+part_step at.Procedures part.Finish after b d n e f = reached at.Done after (b + 0) (d + 0) n e (omega (arith, f.0), omega (arith, f.1))
 part_step _ _ after b d n e f = absurd (not_some after e)
 
 -- the stage before the statement numbered i
-pub record Stands (stmts : List Placed) (i : ℕ) : Type 0 where
-  pub stage : Stage
-  pub rest : run stage (drop i stmts) ≡ Some at.Done
-  pub fits : Fits stage (owner stmts i) (ended stmts i) (line stmts i)
+record Stands (stmts : List Placed) (i : ℕ) : Type 0 where
+  stage : Stage
+  rest : run stage (drop i stmts) ≡ Some at.Done
+  fits : Fits stage (owner stmts i) (ended stmts i) (line stmts i)
 
 -- what stands at a number and behind it
 pub drop_here : (ss : List Placed) (i : ℕ) (s : Placed) → slice_get ss i ≡ Some s → drop i ss ≡ s ∷ drop (suc i) ss
@@ -82,18 +86,20 @@ drop_here (x ∷ xs) zero s e = let f : x ≡ s = cc in ap (λ (y : Placed). y �
 drop_here (x ∷ xs) (suc i) s e = drop_here xs i s e
 
 -- a statement may stand at the stage before it
-pub record Goes (stage : Stage) (s : Statement) (ss : List Placed) : Type 0 where
-  pub after : Stage
-  pub step : next stage (part_of s) ≡ Some after
-  pub rest : run after ss ≡ Some at.Done
+record Goes (stage : Stage) (s : Statement) (ss : List Placed) : Type 0 where
+  after : Stage
+  step : next stage (part_of s) ≡ Some after
+  rest : run after ss ≡ Some at.Done
 
 goes_by : (stage : Stage) (s : Statement) (ss : List Placed) (o : Option Stage) → next stage (part_of s) ≡ o → option_and_then (λ after. run after ss) o ≡ Some at.Done → Goes stage s ss
 goes_by stage s ss None f e = absurd (not_some at.Done e)
 goes_by stage s ss (Some after) f e = record { after = after; step = f; rest = e }
 
-pub goes : (stmts : List Placed) (i : ℕ) (s : Placed) (f : Stands stmts i) → slice_get stmts i ≡ Some s → Goes f.stage s.says (drop (suc i) stmts)
+-- each statement of a text in order may
+goes : (stmts : List Placed) (i : ℕ) (s : Placed) (f : Stands stmts i) → slice_get stmts i ≡ Some s → Goes f.stage s.says (drop (suc i) stmts)
 goes stmts i s f at = goes_by f.stage s.says (drop (suc i) stmts) (next f.stage (part_of s.says)) refl (ap (run f.stage) (sym (drop_here stmts i s at)) ∙ f.rest)
 
+-- the stage behind a statement
 step : (stmts : List Placed) (i : ℕ) (s : Placed) → Stands stmts i → slice_get stmts i ≡ Some s → Stands stmts (suc i)
 step stmts i s f at =
     let g = goes stmts i s f at in
@@ -108,7 +114,7 @@ step stmts i s f at =
     }
 
 -- there is a stage before each statement and behind the last
-pub stage_at : (stmts : List Placed) → IsInOrder stmts → (i : ℕ) → i ≤ length stmts → Stands stmts i
+stage_at : (stmts : List Placed) → IsInOrder stmts → (i : ℕ) → i ≤ length stmts → Stands stmts i
 stage_at stmts o zero h = record { stage = at.Start; rest = o; fits = (refl, refl) }
 stage_at stmts o (suc i) h =
     let within : i < length stmts = omega (arith, h) in
@@ -126,6 +132,7 @@ pub record Inside (s : Statement) (begun done line : ℕ) : Type 0 where
   pub first : is_pre s ≡ true → line ≡ 0
   pub later : is_pre s ≡ false → 1 ≤ line
 
+-- the part of a line is PRE or another one in the body
 abbrev IsLinePart : Bool → Part → Type 0
 IsLinePart true p = p ≡ part.Precondition
 IsLinePart false p = (p ≡ part.Body) ⊎ (p ≡ part.Closing)
@@ -147,6 +154,7 @@ line_part (pre _) e = refl
 line_part end_procedure e = inr refl
 line_part _ e = inl refl
 
+-- PRE stands behind the variables, the lines of the body and ENDPROC behind POST
 before_pre : (stage after : Stage) (b d n : ℕ) → next stage part.Precondition ≡ Some after → Fits stage b d n → (b ≡ d + 1) × (n ≡ 0)
 before_pre at.Variables after b d n e f = f
 before_pre _ after b d n e f = absurd (not_some after e)
@@ -169,6 +177,7 @@ before_line false p stage after b d n (inl l) e f =
 before_line false p stage after b d n (inr l) e f =
     let g = before_closing stage after b d n (ap (next stage) (sym l) ∙ e) f in (g.0, λ h. absurd (let z : false ≡ true = h in cc), λ h. g.1)
 
+-- a line of a text in order
 pub inside : (stmts : List Placed) → IsInOrder stmts → (i : ℕ) (s : Placed) → i < length stmts → slice_get stmts i ≡ Some s → has_line s.says ≡ true
     → Inside s.says (owner stmts i) (ended stmts i) (line stmts i)
 inside stmts o i s h at has =

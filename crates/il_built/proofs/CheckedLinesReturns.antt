@@ -14,6 +14,7 @@ use Rattle.il_built.proofs.CheckedLinesCounts.{ends, ended, ended_next, ended_ri
 use Rattle.il_built.proofs.CheckedLinesEnd.{IsLineOf, IsEndOf, none_behind, line_inside}
 use Rattle.il_built.proofs.VariablesCounted.{stands}
 
+-- a statement that ends no procedure is no ENDPROC
 ends_nothing : (s : Statement) → ends s ≡ 0 → is_end s ≡ false
 ends_nothing end_procedure e = absurd (omega (arith, e))
 ends_nothing _ e = refl
@@ -40,6 +41,7 @@ first_end stmts k z (suc d) x e far same =
     ∙ ap (λ (b : Bool). if b then line stmts x else end_line (line stmts (x + 1)) (drop (x + 1) stmts)) (ends_nothing s.0.says nothing)
     ∙ first_end stmts k z d (x + 1) e near (ap (ended stmts) (sym one) ∙ still)
 
+-- behind a line of a procedure the first ENDPROC is that of the procedure
 pub returns_to : (stmts : List Placed) (k z x : ℕ) (s : Placed) → IsInOrder stmts → IsEndOf stmts k z → IsLineOf stmts k x s → end_line (line stmts x) (drop x stmts) ≡ line stmts z
 returns_to stmts k z x s o e l =
     let low : x ≤ z = none_behind stmts k z x s o e l in
@@ -51,6 +53,7 @@ returns_to stmts k z x s o e l =
     let same : ended stmts x ≡ ended stmts z = omega (arith, here, there, own, ends_own) in
     first_end stmts k z (z - x) x e far same
 
+-- a statement that names a line is one
 names_is_line : (s : Statement) → names_line s ≡ true → has_line s ≡ true
 names_is_line (if_true _) e = refl
 names_is_line otherwise e = refl
@@ -65,6 +68,7 @@ differ : (b : Bool) → b ≡ true → b ≡ false → ⊥
 differ true e f = let z : true ≡ false = f in cc
 differ false e f = let z : false ≡ true = e in cc
 
+-- a link tells the target of such a statement
 link_names : (stmts : List Placed) (x : ℕ) (s : Statement) (l : Link) → IsLink stmts x s l → names_line s ≡ true → HasTarget stmts x s (target_of l)
 link_names stmts x s link.NoLine p e = absurd (differ (has_line s) (names_is_line s e) p)
 link_names stmts x s (link.Plain own) p e = absurd (differ (names_line s) e p.1)

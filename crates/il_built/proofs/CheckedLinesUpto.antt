@@ -1,5 +1,5 @@
 -- A list that is made number by number: where the elements that each number gives stand.
-use Rattle.std.proofs.Common.{◌≡◌, ◌⊎◌, ℕ, zero, suc, ◌+◌, ◌-◌, ◌<◌, ◌≤◌, ◌∙◌, sym, ap, subst, refl, inl, inr, List, [], ◌∷◌, ◌++◌, length, arith}
+use Rattle.std.proofs.Common.{◌≡◌, ℕ, zero, suc, ◌+◌, ◌-◌, ◌<◌, ◌≤◌, ◌∙◌, sym, ap, refl, inl, inr, List, [], ◌∷◌, ◌++◌, length, arith}
 use Rattle.std.specs.Prelude.{Option, Some, None, slice_get}
 use Rattle.std.proofs.lemmas.Bool.{cases_lt}
 use Rattle.std.proofs.lemmas.List.{append-nil, length-append}
@@ -33,6 +33,7 @@ pub record Found {A : Type 0} (f : ℕ → List A) (n k : ℕ) (a : A) : Type 0 
   pub here : slice_get (f at) part ≡ Some a
   pub number : length (upto f at) + part ≡ k
 
+-- each element is
 pub found : {A : Type 0} (f : ℕ → List A) (n k : ℕ) (a : A) → slice_get (upto f n) k ≡ Some a → Found f n k a
 found f zero k a e = absurd (not_some a e)
 found f (suc n) k a e = elim (cases_lt k (length (upto f n))) [
@@ -76,6 +77,7 @@ ends_at f m (suc n) h none = elim (cases_lt n m) [
       ∙ ends_at f m n more (λ y low high. let further : y < suc n = omega (arith, high) in none y low further)
 ]
 
+-- a number more gives so many elements more
 pub length_more : {A : Type 0} (f : ℕ → List A) (n : ℕ) → length (upto f (suc n)) ≡ length (upto f n) + length (f n)
 length_more f n = length-append (upto f n) (f n)
 

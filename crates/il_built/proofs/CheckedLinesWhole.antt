@@ -1,15 +1,14 @@
 -- Each procedure of a text in order, with its links and without a fault, is a checked procedure.
-use Rattle.std.proofs.Common.{◌≡◌, ◌≢◌, ◌⊎◌, ℕ, zero, suc, ◌+◌, ◌<◌, ◌≤◌, ◌∙◌, sym, ap, subst, refl, inl, inr, Bool, true, false, List, [], ◌∷◌, ◌++◌, length, take, arith}
-use Rattle.std.specs.Prelude.{Option, Some, None, slice_get}
+use Rattle.std.proofs.Common.{◌≡◌, ℕ, suc, ◌+◌, ◌<◌, ◌≤◌, ◌∙◌, sym, ap, subst, refl, Bool, true, false, List, [], ◌∷◌, length, arith}
+use Rattle.std.specs.Prelude.{Some, None, slice_get}
 use Rattle.std.proofs.Math.Seq.{take-length}
 use Rattle.std.proofs.lemmas.List.{length-append}
-use Rattle.std.proofs.lemmas.Option.{slice_get_within, slice_get-get_or}
+use Rattle.std.proofs.lemmas.Option.{slice_get_within}
 use Rattle.il_core.specs.Checked.{IsChecked, FitsAt}
-use Rattle.il_core.specs.Expression.{Expression, truth}
+use Rattle.il_core.specs.Expression.{Expression}
 use Rattle.il_core.specs.Procedure.{Instruction}
 use Rattle.il_core.specs.Procedure as line
-use Rattle.il_core.specs.Statement.{Statement, Placed, procedure, pre, end_procedure}
-use Rattle.il_core.specs.Tree.{Tree}
+use Rattle.il_core.specs.Statement.{Statement, Placed, procedure, pre}
 use Rattle.il_core.specs.declared.statement.Link.{Link}
 use Rattle.il_syntax.specs.Order.{IsInOrder}
 use Rattle.il_blocks.specs.BlockLabel.{begins, procedures, owner}
@@ -21,12 +20,12 @@ use Rattle.il_types.specs.Rules.{Answers}
 use Rattle.il_built.specs.CheckedText.{named, procedure_names, places_of, post_of, instructions, target_at, procedure_of}
 use Rattle.il_built.specs.CheckedText as text
 use Rattle.il_built.specs.Holding.{setting_at}
-use Rattle.il_built.specs.Laws.{ProceduresAreChecked, AreCheckedProcedures}
+use Rattle.il_built.specs.Laws.{ProceduresAreChecked}
 use Rattle.il_built.proofs.CheckedLinesCounts.{owner_is, line_is, behind_line}
-use Rattle.il_built.proofs.CheckedLinesEnd.{IsLineOf, IsEndOf, end_of, lines_counted, line_later}
+use Rattle.il_built.proofs.CheckedLinesEnd.{IsLineOf, end_of, lines_counted, line_later}
 use Rattle.il_built.proofs.CheckedLinesFit.{line_fits}
 use Rattle.il_built.proofs.CheckedLinesNumbered.{IsLineAt, line_found, line_there, has_one}
-use Rattle.il_built.proofs.CheckedLinesOrder.{is_pre, all_ended, Inside}
+use Rattle.il_built.proofs.CheckedLinesOrder.{is_pre, all_ended}
 use Rattle.il_built.proofs.CheckedPlaces.{places_few, places_ranges, places_in_order}
 use Rattle.il_built.proofs.WithoutFault.{keeps_rules, limited_at}
 
@@ -42,6 +41,7 @@ names_are : (stmts : List Placed) → length (procedure_names stmts) ≡ procedu
 names_are [] = refl
 names_are (s ∷ ss) = length-append (named s) (procedure_names ss) ∙ ap (λ (n : ℕ). n + length (procedure_names ss)) (one_name s) ∙ ap (λ (n : ℕ). begins s.says + n) (names_are ss)
 
+-- and as begin before the end
 names_owned : (stmts : List Placed) → length (procedure_names stmts) ≡ owner stmts (length stmts)
 names_owned stmts = names_are stmts ∙ ap procedures (sym (take-length stmts))
 
@@ -61,6 +61,7 @@ few_procedures stmts a =
     let o = owner_is stmts (length stmts) in
     omega (arith, limit, e, o)
 
+-- a line is given by a statement that is one
 line_of : (stmts : List Placed) (links : List Link) (k n : ℕ) (i : Instruction) (l : IsLineAt stmts links k n i) → IsLineOf stmts k l.at l.stmt
 line_of stmts links k n i l = record { there = l.there; own = l.own; has = has_one stmts links k n i l }
 
@@ -69,6 +70,7 @@ first_is_pre : (b : Bool) (n : ℕ) → n ≡ 0 → (b ≡ false → 1 ≤ n) �
 first_is_pre true n e later = refl
 first_is_pre false n e later = let above = later refl in absurd (omega (arith, e, above))
 
+-- PRE gives line 0
 pre_is : (s : Setting) (condition : Expression) (target : ℕ) (x : Statement) (i : Instruction) → is_pre x ≡ true → instructions s condition target x ≡ i ∷ []
     → (e : Expression) × (i ≡ line.pre e)
 pre_is s condition target (pre d) i e g = let same : i ≡ line.pre (built s d) = cc in (built s d, same)
@@ -86,6 +88,7 @@ begins_with stmts links k o (i ∷ xs) same h =
     let p = pre_is (setting_at stmts l.at) (post_of stmts k) (target_at links l.at) l.stmt.says i has l.gives in
     (p.0, first ∙ ap (λ (j : Instruction). Some j) p.1)
 
+-- a procedure of such a text is checked
 checked : (stmts : List Placed) (links : List Link) (k : ℕ) → IsInOrder stmts → AreLinks stmts links → Answers stmts None → k < owner stmts (length stmts)
     → IsChecked (procedure_of stmts links (suc k))
 checked stmts links k o ls a h =
@@ -123,6 +126,7 @@ checked stmts links k o ls a h =
       in_order = places_in_order stmts (suc k);
     }
 
+-- all of them are
 pub procedures_are_checked : ProceduresAreChecked
 procedures_are_checked stmts links o ls a = record {
   each = λ k name there.
