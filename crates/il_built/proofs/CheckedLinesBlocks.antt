@@ -13,10 +13,8 @@ use Rattle.il_blocks.specs.BlockLink.{between, Pairs}
 use Rattle.il_blocks.proofs.BlockNest.{scan, scan_append, opens_scanned}
 use Rattle.il_blocks.proofs.BlockChain.{front_next, between_next}
 use Rattle.il_blocks.proofs.BlockOne.{scan_weaken}
+use Rattle.il_built.proofs.BuiltSorts.{none_some}
 use Rattle.il_built.proofs.VariablesCounted.{stands}
-
-not_some : {A : Type 0} (x : A) → ◌≡◌ {A = Option A} None (Some x) → ⊥
-not_some x e = cc
 
 -- the innermost open block, which a closer fits
 record Top (c : Closer) (ks : List Kind) : Type 0 where
@@ -115,7 +113,7 @@ still_open xs a k ys is js f e = by (scan (xs ++ closings a) []) parts
     parts = sym (scan_append (xs ++ closings a) (opening k ∷ ys) []) ∙ ap (λ (bs : List Bracket). scan bs []) (sym shape) ∙ e
 
     by : (o : Option (List Kind)) → option_and_then (scan (opening k ∷ ys)) o ≡ Some js → (ks : List Kind) × (js ≡ is ++ k ∷ ks)
-    by None g = absurd (not_some js g)
+    by None g = none_some js g
     by (Some ks) g =
         let z : ◌≡◌ {A = Option (List Kind)} (Some js) (Some (is ++ k ∷ ks)) = sym g ∙ scan_weaken ys [] is (k ∷ ks) f in
         let same : js ≡ is ++ k ∷ ks = cc in

@@ -1,6 +1,6 @@
 -- How many procedures have begun and ended before a statement, and its line, from one statement to the next.
 use Rattle.std.proofs.Common.{◌≡◌, ◌⊎◌, ℕ, zero, suc, ◌+◌, ◌<◌, ◌≤◌, ◌∙◌, ap, refl, inl, inr, Bool, true, false, List, [], ◌∷◌, ◌++◌, length, take, arith, if◌then◌else◌}
-use Rattle.std.specs.Prelude.{Option, Some, None, slice_get, fold}
+use Rattle.std.specs.Prelude.{Some, slice_get, fold}
 use Rattle.std.proofs.lemmas.Bool.{cases_lt}
 use Rattle.il_core.specs.Statement.{Statement, Placed, variable, procedure, end_procedure}
 use Rattle.il_blocks.specs.BlockLabel.{begins, procedures, owner}

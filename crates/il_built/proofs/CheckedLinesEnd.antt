@@ -102,7 +102,8 @@ line_within stmts k z x s o e l =
       | inr more ↦ let same : x ≡ z = omega arith in let one : line stmts x ≡ line stmts z = ap (line stmts) same in omega (arith, one)
     ]
 
-differ : (b : Bool) → b ≡ true → b ≡ false → ⊥
+-- no test both holds and fails
+pub differ : (b : Bool) → b ≡ true → b ≡ false → ⊥
 differ true e f = let z : true ≡ false = f in cc
 differ false e f = let z : false ≡ true = e in cc
 

@@ -15,13 +15,11 @@ use Rattle.il_blocks.specs.BlockLabel.{begins, owner, label_of, IsLabel}
 use Rattle.il_blocks.specs.BlockLink.{between, Pairs, Surrounds, has_line, line, is_end, is_else, GoesOnAt, LeavesTo}
 use Rattle.il_blocks.proofs.BlockNest.{scan, opens_scanned, wholes_scan}
 use Rattle.il_blocks.proofs.BlockOne.{between_split}
+use Rattle.il_built.proofs.BuiltSorts.{none_some}
 use Rattle.il_built.proofs.CheckedLinesBlocks.{pair_fits}
 use Rattle.il_built.proofs.CheckedLinesEnd.{IsLineOf, IsEndOf, target_line, target_behind}
 use Rattle.il_built.proofs.CheckedLinesNested.{same_owner}
 use Rattle.il_built.proofs.CheckedLinesOrder.{is_pre}
-
-not_some : {A : Type 0} (x : A) → ◌≡◌ {A = Option A} None (Some x) → ⊥
-not_some x e = cc
 
 -- a statement that closes a block is a line
 closer_line : (s : Statement) (c : Closer) → closed_by s ≡ Some c → (has_line s ≡ true) × (is_pre s ≡ false)
@@ -29,7 +27,7 @@ closer_line otherwise c e = (refl, refl)
 closer_line end_if c e = (refl, refl)
 closer_line end_loop c e = (refl, refl)
 closer_line end_procedure c e = (refl, refl)
-closer_line _ c e = absurd (not_some c e)
+closer_line _ c e = none_some c e
 
 -- so is one other than PROC that opens a block
 opener_line : (s : Statement) (k : Kind) → opened_by s ≡ Some k → begins s ≡ 0 → (has_line s ≡ true) × (is_pre s ≡ false)
@@ -37,7 +35,7 @@ opener_line (procedure _) k e b = absurd (omega (arith, b))
 opener_line (if_true _) k e b = (refl, refl)
 opener_line otherwise k e b = (refl, refl)
 opener_line loop k e b = (refl, refl)
-opener_line _ k e b = absurd (not_some k e)
+opener_line _ k e b = none_some k e
 
 -- ENDPROC does not fit it
 not_end : (s t : Statement) (k : Kind) (c : Closer) → opened_by s ≡ Some k → begins s ≡ 0 → closed_by t ≡ Some c → fits c k ≡ true → is_end t ≡ false
@@ -54,7 +52,7 @@ not_end s end_procedure k c opens b closes f =
     by (if_true _) k e b f = misfit k kind.Then e refl f
     by otherwise k e b f = misfit k kind.Otherwise e refl f
     by loop k e b f = misfit k kind.Round e refl f
-    by _ k e b f = not_some k e
+    by _ k e b f = none_some k e
 not_end s _ k c opens b closes f = refl
 
 -- a LOOP begins no procedure, nor does what ENDLOOP closes
@@ -138,8 +136,8 @@ begins_block stmts k z x j count target s o n e long l says p is =
 
 -- nothing closes a block before it is opened
 no_closer : (a : Option Closer) (c : Closer) (rest more : List Bracket) (ks : List Kind) → a ≡ Some c → scan ((closings a ++ rest) ++ more) [] ≡ Some ks → ⊥
-no_closer None c rest more ks f e = not_some c f
-no_closer (Some d) c rest more ks f e = not_some ks e
+no_closer None c rest more ks f e = none_some c f
+no_closer (Some d) c rest more ks f e = none_some ks e
 
 -- the LOOP around a statement ends behind it
 loop_behind : (stmts : List Placed) (i x j : ℕ) (s : Placed) → slice_get stmts x ≡ Some s → closed_by s.says ≡ None → Surrounds stmts i x → Pairs stmts i j → x < j
@@ -147,7 +145,7 @@ loop_behind stmts i x j s at none u p = elim (cases_order x j) [
   | inr (inl less) ↦ less
   | inl same ↦
       let one : s ≡ p.ender = same_stmt stmts x s p.ender at (ap (slice_get stmts) same ∙ p.to) in
-      absurd (not_some p.closer (sym none ∙ ap (λ (t : Placed). closed_by t.says) one ∙ p.closes))
+      none_some p.closer (sym none ∙ ap (λ (t : Placed). closed_by t.says) one ∙ p.closes)
   | inr (inr more) ↦ absurd (by more)
 ]
   where
@@ -177,7 +175,7 @@ leaves_loop stmts k z x count target s o n e long l none t =
 -- a LABEL is a line
 label_line : (s : Statement) (name : List ℕ) → label_of s ≡ Some name → (has_line s ≡ true) × (is_pre s ≡ false)
 label_line (label _) name e = (refl, refl)
-label_line _ name e = absurd (not_some name e)
+label_line _ name e = none_some name e
 
 -- a GOTO goes on at its LABEL
 pub goes_to : (stmts : List Placed) (k z x j count target : ℕ) (s : Placed) (name : List ℕ) → IsInOrder stmts → IsEndOf stmts k z → count ≡ line stmts z + 1 → IsLineOf stmts k x s
@@ -191,5 +189,5 @@ goes_to stmts k z x j count target s name o e long l none b is =
       | inr other ↦ other
       | inl same ↦
           let one : s ≡ b.stmt = same_stmt stmts x s b.stmt l.there (ap (slice_get stmts) same ∙ b.at) in
-          absurd (not_some name (sym none ∙ ap (λ (t : Placed). label_of t.says) one ∙ b.says))
+          none_some name (sym none ∙ ap (λ (t : Placed). label_of t.says) one ∙ b.says)
     ]

@@ -18,13 +18,11 @@ use Rattle.il_blocks.specs.BlockLink.{between, Pairs}
 use Rattle.il_blocks.proofs.BlockNest.{scan, scan_one, scan_append, opens_scanned}
 use Rattle.il_blocks.proofs.BlockChain.{front_next}
 use Rattle.il_blocks.proofs.BlockOne.{between_split}
+use Rattle.il_built.proofs.BuiltSorts.{none_some}
 use Rattle.il_built.proofs.CheckedLinesBlocks.{open_at, opened_still}
 use Rattle.il_built.proofs.CheckedLinesCounts.{owner_next}
 use Rattle.il_built.proofs.CheckedLinesOrder.{drop_here}
 use Rattle.il_built.proofs.VariablesCounted.{stands}
-
-not_some : {A : Type 0} (x : A) → ◌≡◌ {A = Option A} None (Some x) → ⊥
-not_some x e = cc
 
 -- no block is open
 abbrev is_none : List Kind → Bool
@@ -48,7 +46,7 @@ none_is (k ∷ ks) e = absurd (let z : false ≡ true = e in cc)
 
 -- a closer other than ENDPROC closes a block in a procedure
 closes : (c : Closer) (ks js : List Kind) → fits c kind.Procedure ≡ false → in_procedure ks ≡ true → scan_one (closing c) ks ≡ Some js → in_procedure js ≡ true
-closes c [] js h p e = absurd (not_some js e)
+closes c [] js h p e = none_some js e
 closes c (k ∷ ks) js h p e = by (fits c k) refl e
   where
     inner : (k : Kind) → fits c k ≡ true → in_procedure (k ∷ ks) ≡ true → in_procedure ks ≡ true
@@ -57,16 +55,16 @@ closes c (k ∷ ks) js h p e = by (fits c k) refl e
 
     by : (b : Bool) → fits c k ≡ b → (if b then Some ks else None) ≡ Some js → in_procedure js ≡ true
     by true f e = let same : ks ≡ js = cc in ap in_procedure (sym same) ∙ inner k f p
-    by false f e = absurd (not_some js e)
+    by false f e = none_some js e
 
 -- ENDPROC closes the block of the procedure
 closes_all : (ks js : List Kind) → in_procedure ks ≡ true → scan_one (closing closer.ByEndProc) ks ≡ Some js → js ≡ []
-closes_all [] js p e = absurd (not_some js e)
+closes_all [] js p e = none_some js e
 closes_all (kind.Procedure ∷ ks) js p e =
     let z : ◌≡◌ {A = Option (List Kind)} (Some ks) (Some js) = e in
     let same : ks ≡ js = cc in
     sym same ∙ none_is ks p
-closes_all (_ ∷ ks) js p e = absurd (not_some js e)
+closes_all (_ ∷ ks) js p e = none_some js e
 
 -- a scan of one bracket, and of one and an opener, by its steps
 last_one : (o : Option (List Kind)) (js : List Kind) → option_and_then (scan []) o ≡ Some js → o ≡ Some js
@@ -74,7 +72,7 @@ last_one None js e = e
 last_one (Some ks) js e = e
 
 last_two : (k : Kind) (o : Option (List Kind)) (js : List Kind) → option_and_then (scan (opening k ∷ [])) o ≡ Some js → (is : List Kind) × (o ≡ Some is) × (k ∷ is ≡ js)
-last_two k None js e = absurd (not_some js e)
+last_two k None js e = none_some js e
 last_two k (Some is) js e = let f : k ∷ is ≡ js = cc in (is, refl, f)
 
 -- past a statement that may stand there
@@ -151,7 +149,7 @@ scan_front : (xs ys : List Bracket) (js : List Kind) → scan (xs ++ ys) [] ≡ 
 scan_front xs ys js e = by (scan xs []) refl (sym (scan_append xs ys []) ∙ e)
   where
     by : (o : Option (List Kind)) → scan xs [] ≡ o → option_and_then (scan ys) o ≡ Some js → (is : List Kind) × (scan xs [] ≡ Some is)
-    by None f g = absurd (not_some js g)
+    by None f g = none_some js g
     by (Some is) f g = (is, f)
 
 -- no procedure begins inside a block

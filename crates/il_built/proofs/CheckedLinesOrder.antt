@@ -11,11 +11,9 @@ use Rattle.il_syntax.specs.declared.order.Stage.TheVariants as at
 use Rattle.il_syntax.specs.Order.{part_of, next, run, IsInOrder}
 use Rattle.il_blocks.specs.BlockLabel.{begins, owner}
 use Rattle.il_blocks.specs.BlockLink.{has_line, line_behind, line}
+use Rattle.il_built.proofs.BuiltSorts.{none_some}
 use Rattle.il_built.proofs.CheckedLinesCounts.{ends, ended, owner_next, ended_next, next_line_is}
 use Rattle.il_built.proofs.VariablesCounted.{stands}
-
-not_some : {A : Type 0} (x : A) → ◌≡◌ {A = Option A} None (Some x) → ⊥
-not_some x e = cc
 
 -- at a stage so many procedures have begun and ended, and this is the next line
 abbrev Fits : Stage → ℕ → ℕ → ℕ → Type 0
@@ -71,7 +69,7 @@ part_step at.Body part.Body after b d n e f = reached at.Body after (b + 0) (d +
 part_step at.Body part.Closing after b d n e f = reached at.Procedures after (b + 0) (d + 1) (n + 1) e (omega (arith, f.0), omega (arith, f.0))
 part_step at.Procedures part.Opening after b d n e f = reached at.Variables after (b + 1) (d + 0) 0 e (omega (arith, f.0), refl)
 part_step at.Procedures part.Finish after b d n e f = reached at.Done after (b + 0) (d + 0) n e (omega (arith, f.0), omega (arith, f.1))
-part_step _ _ after b d n e f = absurd (not_some after e)
+part_step _ _ after b d n e f = none_some after e
 
 -- the stage before the statement numbered i
 record Stands (stmts : List Placed) (i : ℕ) : Type 0 where
@@ -81,7 +79,7 @@ record Stands (stmts : List Placed) (i : ℕ) : Type 0 where
 
 -- what stands at a number and behind it
 pub drop_here : (ss : List Placed) (i : ℕ) (s : Placed) → slice_get ss i ≡ Some s → drop i ss ≡ s ∷ drop (suc i) ss
-drop_here [] i s e = absurd (not_some s e)
+drop_here [] i s e = none_some s e
 drop_here (x ∷ xs) zero s e = let f : x ≡ s = cc in ap (λ (y : Placed). y ∷ xs) f
 drop_here (x ∷ xs) (suc i) s e = drop_here xs i s e
 
@@ -92,7 +90,7 @@ record Goes (stage : Stage) (s : Statement) (ss : List Placed) : Type 0 where
   rest : run after ss ≡ Some at.Done
 
 goes_by : (stage : Stage) (s : Statement) (ss : List Placed) (o : Option Stage) → next stage (part_of s) ≡ o → option_and_then (λ after. run after ss) o ≡ Some at.Done → Goes stage s ss
-goes_by stage s ss None f e = absurd (not_some at.Done e)
+goes_by stage s ss None f e = none_some at.Done e
 goes_by stage s ss (Some after) f e = record { after = after; step = f; rest = e }
 
 -- each statement of a text in order may
@@ -157,15 +155,15 @@ line_part _ e = inl refl
 -- PRE stands behind the variables, the lines of the body and ENDPROC behind POST
 before_pre : (stage after : Stage) (b d n : ℕ) → next stage part.Precondition ≡ Some after → Fits stage b d n → (b ≡ d + 1) × (n ≡ 0)
 before_pre at.Variables after b d n e f = f
-before_pre _ after b d n e f = absurd (not_some after e)
+before_pre _ after b d n e f = none_some after e
 
 before_body : (stage after : Stage) (b d n : ℕ) → next stage part.Body ≡ Some after → Fits stage b d n → (b ≡ d + 1) × (1 ≤ n)
 before_body at.Body after b d n e f = f
-before_body _ after b d n e f = absurd (not_some after e)
+before_body _ after b d n e f = none_some after e
 
 before_closing : (stage after : Stage) (b d n : ℕ) → next stage part.Closing ≡ Some after → Fits stage b d n → (b ≡ d + 1) × (1 ≤ n)
 before_closing at.Body after b d n e f = f
-before_closing _ after b d n e f = absurd (not_some after e)
+before_closing _ after b d n e f = none_some after e
 
 -- a part that is a line, at the stage before it
 before_line : (is_first : Bool) (p : Part) (stage after : Stage) (b d n : ℕ) → IsLinePart is_first p → next stage p ≡ Some after → Fits stage b d n

@@ -11,7 +11,7 @@ use Rattle.il_blocks.specs.BlockLink.{has_line, names_line, line, is_end, end_li
 use Rattle.il_blocks.proofs.BlockLines.{end_next}
 use Rattle.il_built.specs.CheckedText.{target_of, target_at}
 use Rattle.il_built.proofs.CheckedLinesCounts.{ends, ended, ended_next, ended_rises}
-use Rattle.il_built.proofs.CheckedLinesEnd.{IsLineOf, IsEndOf, none_behind, line_inside}
+use Rattle.il_built.proofs.CheckedLinesEnd.{IsLineOf, IsEndOf, differ, none_behind, line_inside}
 use Rattle.il_built.proofs.VariablesCounted.{stands}
 
 -- a statement that ends no procedure is no ENDPROC
@@ -63,10 +63,6 @@ names_is_line (exit_when _) e = refl
 names_is_line (goto _) e = refl
 names_is_line return e = refl
 names_is_line _ e = absurd (let z : false ≡ true = e in cc)
-
-differ : (b : Bool) → b ≡ true → b ≡ false → ⊥
-differ true e f = let z : true ≡ false = f in cc
-differ false e f = let z : false ≡ true = e in cc
 
 -- a link tells the target of such a statement
 link_names : (stmts : List Placed) (x : ℕ) (s : Statement) (l : Link) → IsLink stmts x s l → names_line s ≡ true → HasTarget stmts x s (target_of l)

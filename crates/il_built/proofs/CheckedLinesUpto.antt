@@ -1,17 +1,15 @@
 -- A list that is made number by number: where the elements that each number gives stand.
 use Rattle.std.proofs.Common.{◌≡◌, ℕ, zero, suc, ◌+◌, ◌-◌, ◌<◌, ◌≤◌, ◌∙◌, sym, ap, refl, inl, inr, List, [], ◌∷◌, ◌++◌, length, arith}
-use Rattle.std.specs.Prelude.{Option, Some, None, slice_get}
+use Rattle.std.specs.Prelude.{Some, slice_get}
 use Rattle.std.proofs.lemmas.Bool.{cases_lt}
 use Rattle.std.proofs.lemmas.List.{append-nil, length-append}
 use Rattle.std.proofs.lemmas.Option.{slice_get_within}
+use Rattle.il_built.proofs.BuiltSorts.{none_some}
 
 -- what the numbers below n give, in their order
 abbrev pub upto : {A : Type 0} → (ℕ → List A) → ℕ → List A
 upto f zero = []
 upto f (suc n) = upto f n ++ f n
-
-not_some : {A : Type 0} (x : A) → ◌≡◌ {A = Option A} None (Some x) → ⊥
-not_some x e = cc
 
 -- an element of the first of two lists
 get_left : {A : Type 0} (xs ys : List A) (k : ℕ) → k < length xs → slice_get (xs ++ ys) k ≡ slice_get xs k
@@ -35,7 +33,7 @@ pub record Found {A : Type 0} (f : ℕ → List A) (n k : ℕ) (a : A) : Type 0 
 
 -- each element is
 pub found : {A : Type 0} (f : ℕ → List A) (n k : ℕ) (a : A) → slice_get (upto f n) k ≡ Some a → Found f n k a
-found f zero k a e = absurd (not_some a e)
+found f zero k a e = none_some a e
 found f (suc n) k a e = elim (cases_lt k (length (upto f n))) [
   | inl less ↦
       let there = found f n k a (sym (get_left (upto f n) (f n) k less) ∙ e) in
@@ -83,7 +81,7 @@ length_more f n = length-append (upto f n) (f n)
 
 -- an element of a list of one at most
 pub only : {A : Type 0} (xs : List A) (k : ℕ) (a : A) → length xs ≤ 1 → slice_get xs k ≡ Some a → (k ≡ 0) × (xs ≡ a ∷ [])
-only [] k a h e = absurd (not_some a e)
+only [] k a h e = none_some a e
 only (x ∷ []) zero a h e = let same : x ≡ a = cc in (refl, ap (λ y. y ∷ []) same)
-only (x ∷ []) (suc k) a h e = absurd (not_some a e)
+only (x ∷ []) (suc k) a h e = none_some a e
 only (x ∷ y ∷ xs) k a h e = absurd (omega (arith, h))
