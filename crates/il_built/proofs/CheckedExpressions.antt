@@ -1,6 +1,6 @@
 -- In a text in order without a fault, what is built of the conditions and assignments of a procedure is sound over its places.
-use Rattle.std.proofs.Common.{◌≡◌, ℕ, ◌∙◌, sym, ap, subst, refl, true, List}
-use Rattle.std.specs.Prelude.{Option, Some, None, slice_get, length}
+use Rattle.std.proofs.Common.{◌≡◌, ℕ, ap, subst, refl, true, List}
+use Rattle.std.specs.Prelude.{Option, Some, None, slice_get}
 use Rattle.il_core.specs.Checked.{IsSoundCondition, IsSoundAssignment}
 use Rattle.il_core.specs.Statement.{Statement, Placed, pre, post, assign, if_true, exit_when, assert}
 use Rattle.il_core.specs.Tree.{Tree}
@@ -10,7 +10,7 @@ use Rattle.il_types.specs.declared.rules.Rule.TheVariants as rule
 use Rattle.il_types.specs.Built.{assigned_place, built}
 use Rattle.il_types.specs.Names.{Setting, front_of, counts_at}
 use Rattle.il_types.specs.Rules.{broken, Answers}
-use Rattle.il_built.specs.CheckedText.{places_of, variables_of}
+use Rattle.il_built.specs.CheckedText.{places_of}
 use Rattle.il_built.specs.Holding.{setting_at, Holds}
 use Rattle.il_built.proofs.BuiltFits.{IsKept, keeps, reads_of, pre_fits, post_fits, if_true_fits, exit_when_fits, assert_fits, assign_fits}
 use Rattle.il_built.proofs.BuiltRanges.{nowhere_at}
@@ -40,6 +40,7 @@ condition_behind (exit_when d) e h = refl
 condition_behind (assert d) e h = refl
 condition_behind _ e h = none_some e h
 
+-- the condition of a statement that keeps the rules is sound
 condition_fits : (s : Setting) (places : List Place) (x : Statement) (e : Tree) → Reads s places → IsKept s x → condition_in x ≡ Some e → IsSoundCondition places (built s e)
 condition_fits s places (pre d) e r k h = subst (λ t. IsSoundCondition places (built s t)) (some_is d e h) (pre_fits s places r d k)
 condition_fits s places (post d) e r k h = subst (λ t. IsSoundCondition places (built s t)) (some_is d e h) (post_fits s places r d k)
@@ -65,12 +66,14 @@ kept_at stmts i x a there =
     keeps stmts i x.says (nowhere_at (broken rule.Typed table stmts) stmts i x k.typed there) (nowhere_at (broken rule.Allowed table stmts) stmts i x k.allowed there)
     (nowhere_at (broken rule.Narrow table stmts) stmts i x k.narrow there)
 
+-- each condition of a procedure is sound over its places
 pub condition_sound : (stmts : List Placed) (owner i : ℕ) (x : Placed) (e : Tree) → IsInOrder stmts → Answers stmts None → slice_get stmts i ≡ Some x
     → (counts_at stmts i).procedures ≡ owner → condition_in x.says ≡ Some e → IsSoundCondition (places_of stmts owner) (built (setting_at stmts i) e)
 condition_sound stmts owner i x e o a there own h =
     let r = reads_places stmts owner i x o there own (condition_behind x.says e h) in
     condition_fits (setting_at stmts i) (places_of stmts owner) x.says e r (kept_at stmts i x a there) h
 
+-- each assignment of a procedure is sound over its places
 pub assignment_sound : (stmts : List Placed) (owner i : ℕ) (x : Placed) (name : List ℕ) (e : Tree) → IsInOrder stmts → Answers stmts None → slice_get stmts i ≡ Some x
     → (counts_at stmts i).procedures ≡ owner → x.says ≡ assign name e
     → IsSoundAssignment (places_of stmts owner) (assigned_place (setting_at stmts i) name) (built (setting_at stmts i) e)

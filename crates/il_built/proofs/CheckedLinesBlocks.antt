@@ -14,7 +14,7 @@ use Rattle.il_blocks.proofs.BlockNest.{scan, scan_append, opens_scanned}
 use Rattle.il_blocks.proofs.BlockChain.{front_next, between_next}
 use Rattle.il_blocks.proofs.BlockOne.{scan_weaken}
 use Rattle.il_built.proofs.BuiltSorts.{none_some}
-use Rattle.il_built.proofs.VariablesCounted.{stands}
+use Rattle.il_built.proofs.Given.{stands}
 
 -- the innermost open block, which a closer fits
 record Top (c : Closer) (ks : List Kind) : Type 0 where

@@ -11,7 +11,7 @@ use Rattle.il_types.specs.declared.counts.Counts.{Counts}
 use Rattle.il_types.specs.Counts.{counts_behind}
 use Rattle.il_types.specs.Names.{Front, one_more, counts_at}
 use Rattle.il_built.proofs.CheckedLinesRising.{rising}
-use Rattle.il_built.proofs.VariablesCounted.{stands}
+use Rattle.il_built.proofs.Given.{stands}
 
 -- the counts behind a statement tell whether it begins a procedure, and the next line
 procedures_behind : (c : Counts) (s : Statement) → (counts_behind c s).procedures ≡ c.procedures + begins s

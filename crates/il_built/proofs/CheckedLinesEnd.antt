@@ -14,7 +14,7 @@ use Rattle.il_built.proofs.CheckedLinesCounts.{ends, ended, ended_next, ended_st
 use Rattle.il_built.proofs.CheckedLinesNumbered.{lines_end}
 use Rattle.il_built.proofs.CheckedLinesOrder.{is_pre, Inside, inside, all_ended}
 use Rattle.il_built.proofs.CheckedLinesRising.{crossing}
-use Rattle.il_built.proofs.VariablesCounted.{stands}
+use Rattle.il_built.proofs.Given.{stands}
 
 -- the statement numbered x is a line of the procedure numbered k
 pub record IsLineOf (stmts : List Placed) (k x : ℕ) (s : Placed) : Type 0 where

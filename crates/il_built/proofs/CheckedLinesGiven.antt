@@ -6,7 +6,7 @@ use Rattle.il_core.specs.Statement.{Statement, Placed}
 use Rattle.il_types.specs.Names.{counts_at}
 use Rattle.il_built.specs.CheckedText.{of_procedure, given}
 use Rattle.il_built.proofs.CheckedLinesUpto.{upto, Found, found, only}
-use Rattle.il_built.proofs.VariablesCounted.{given_by, given_next, given_here, not_given, stands}
+use Rattle.il_built.proofs.Given.{given_by, given_next, given_here, not_given, stands}
 
 -- what is given is given number by number
 pub given_is : {A : Type 0} (give : ℕ → Statement → List A) (stmts : List Placed) (k n : ℕ) → given_by give stmts k n ≡ upto (of_procedure give stmts k) n

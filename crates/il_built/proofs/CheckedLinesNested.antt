@@ -22,7 +22,7 @@ use Rattle.il_built.proofs.BuiltSorts.{none_some}
 use Rattle.il_built.proofs.CheckedLinesBlocks.{open_at, opened_still}
 use Rattle.il_built.proofs.CheckedLinesCounts.{owner_next}
 use Rattle.il_built.proofs.CheckedLinesOrder.{drop_here}
-use Rattle.il_built.proofs.VariablesCounted.{stands}
+use Rattle.il_built.proofs.Given.{stands}
 
 -- no block is open
 abbrev is_none : List Kind → Bool

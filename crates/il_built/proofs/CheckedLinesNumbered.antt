@@ -17,7 +17,7 @@ use Rattle.il_built.specs.Holding.{setting_at}
 use Rattle.il_built.proofs.CheckedLinesCounts.{owner_is, owner_next, next_line_is, behind_is, begins_cases}
 use Rattle.il_built.proofs.CheckedLinesGiven.{given_is, given_found}
 use Rattle.il_built.proofs.CheckedLinesUpto.{upto, stands_in, ends_at, length_more}
-use Rattle.il_built.proofs.VariablesCounted.{given_here, not_given, stands}
+use Rattle.il_built.proofs.Given.{given_here, not_given, stands}
 
 -- a line is one instruction
 one_each : (s : Setting) (e : Expression) (target : ℕ) (x : Statement) → length (instructions s e target x) ≡ one_if (has_line x)

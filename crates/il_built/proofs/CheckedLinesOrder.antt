@@ -13,7 +13,7 @@ use Rattle.il_blocks.specs.BlockLabel.{begins, owner}
 use Rattle.il_blocks.specs.BlockLink.{has_line, line_behind, line}
 use Rattle.il_built.proofs.BuiltSorts.{none_some}
 use Rattle.il_built.proofs.CheckedLinesCounts.{ends, ended, owner_next, ended_next, next_line_is}
-use Rattle.il_built.proofs.VariablesCounted.{stands}
+use Rattle.il_built.proofs.Given.{stands}
 
 -- at a stage so many procedures have begun and ended, and this is the next line
 abbrev Fits : Stage → ℕ → ℕ → ℕ → Type 0

@@ -12,7 +12,7 @@ use Rattle.il_blocks.proofs.BlockLines.{end_next}
 use Rattle.il_built.specs.CheckedText.{target_of, target_at}
 use Rattle.il_built.proofs.CheckedLinesCounts.{ends, ended, ended_next, ended_rises}
 use Rattle.il_built.proofs.CheckedLinesEnd.{IsLineOf, IsEndOf, differ, none_behind, line_inside}
-use Rattle.il_built.proofs.VariablesCounted.{stands}
+use Rattle.il_built.proofs.Given.{stands}
 
 -- a statement that ends no procedure is no ENDPROC
 ends_nothing : (s : Statement) → ends s ≡ 0 → is_end s ≡ false

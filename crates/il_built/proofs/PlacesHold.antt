@@ -1,20 +1,20 @@
 -- The places of a procedure give each of its variables its place, and each INOUT one its OLD copy.
-use Rattle.std.proofs.Common.{◌≡◌, ℕ, zero, suc, ◌+◌, ◌≤◌, ◌∙◌, sym, ap, subst, refl, true, List, [], ◌∷◌, ◌++◌, length, arith, append_assoc, cond}
+use Rattle.std.proofs.Common.{◌≡◌, ℕ, zero, suc, ◌+◌, ◌≤◌, ◌∙◌, ap, refl, true, List, [], ◌∷◌, ◌++◌, length, arith, append_assoc, cond}
 use Rattle.std.specs.Prelude.{Some, slice_get, filter, map}
 use Rattle.std.specs.Option.{option_map}
 use Rattle.std.proofs.lemmas.List.Elements.{filter-append}
 use Rattle.std.proofs.lemmas.Option.{slice_get-map, slice_get_within}
 use Rattle.il_core.specs.Checked.{is_copied, old_copy}
-use Rattle.il_core.specs.Run.{is_inout}
 use Rattle.il_core.specs.Statement.{Statement, Placed, variable}
 use Rattle.il_core.specs.declared.line.Place.{Place}
 use Rattle.il_core.specs.declared.statement.Mode.{Mode}
 use Rattle.il_core.specs.declared.statement.TypeUse.{TypeUse}
 use Rattle.il_types.specs.Built.{place_of}
 use Rattle.il_types.specs.Names.{counts_at}
-use Rattle.il_built.specs.CheckedText.{declared_place, variables_of, with_copies, places_of}
+use Rattle.il_built.specs.CheckedText.{declared_place, variables_of, places_of}
 use Rattle.il_built.specs.Holding.{setting_at, Declares, Holds}
-use Rattle.il_built.proofs.VariablesCounted.{given_next, given_front, given_here, variables_to, variables_counted}
+use Rattle.il_built.proofs.Given.{given_next, given_front, given_here}
+use Rattle.il_built.proofs.VariablesCounted.{variables_to, variables_counted}
 
 -- an element behind others
 at_seam : {A : Type 0} (xs : List A) (y : A) (ys : List A) (n : ℕ) → length xs ≡ n → slice_get (xs ++ y ∷ ys) n ≡ Some y
@@ -23,6 +23,7 @@ at_seam [] y ys (suc n) h = absurd (omega arith)
 at_seam (x ∷ xs) y ys zero h = absurd (omega arith)
 at_seam (x ∷ xs) y ys (suc n) h = at_seam xs y ys n (omega arith)
 
+-- the elements of a list behind another
 behind : {A : Type 0} (xs ys : List A) (k : ℕ) → slice_get (xs ++ ys) (length xs + k) ≡ slice_get ys k
 behind [] ys k = let e : 0 + k ≡ k = omega arith in ap (slice_get ys) e
 behind (x ∷ xs) ys k = let e : suc (length xs) + k ≡ suc (length xs + k) = omega arith in ap (slice_get (x ∷ (xs ++ ys))) e ∙ behind xs ys k
@@ -34,6 +35,7 @@ record IsAmong (stmts : List Placed) (owner i : ℕ) (p : Place) : Type 0 where
   variables : length (variables_to stmts owner i) ≡ (counts_at stmts i).variables
   copies : length (filter is_copied (variables_to stmts owner i)) ≡ (counts_at stmts i).copies
 
+-- each variable of a procedure stands among them
 among : (stmts : List Placed) (owner i : ℕ) (m : Mode) (name : List ℕ) (used : TypeUse) → Declares stmts i m name used → (counts_at stmts i).procedures ≡ owner
     → IsAmong stmts owner i (place_of (setting_at stmts i) (variable m name used))
 among stmts owner i m name used d own =
@@ -52,6 +54,7 @@ among stmts owner i m name used d own =
       copies = counted.copies own;
     }
 
+-- it has the place that the counts say
 variable_held : (stmts : List Placed) (owner i : ℕ) (p : Place) → IsAmong stmts owner i p → slice_get (places_of stmts owner) (counts_at stmts i).variables ≡ Some p
 variable_held stmts owner i p a =
     let before = variables_to stmts owner i in
@@ -60,6 +63,7 @@ variable_held stmts owner i p a =
     ∙ ap (λ ps. slice_get ps (counts_at stmts i).variables) (append_assoc before (p ∷ a.rest) copies)
     ∙ at_seam before p (a.rest ++ copies) (counts_at stmts i).variables a.variables
 
+-- and so has its OLD copy
 copy_held : (stmts : List Placed) (owner i : ℕ) (p : Place) → IsAmong stmts owner i p → is_copied p ≡ true
     → slice_get (places_of stmts owner) (length (variables_of stmts owner) + (counts_at stmts i).copies) ≡ Some (old_copy p)
 copy_held stmts owner i p a h =
@@ -73,6 +77,7 @@ copy_held stmts owner i p a h =
     ∙ ap (λ ps. option_map old_copy (slice_get ps k)) copied
     ∙ ap (option_map old_copy) (at_seam (filter is_copied before) p (filter is_copied a.rest) k a.copies)
 
+-- the places of a procedure hold its variables and their OLD copies
 pub places_hold : (stmts : List Placed) (owner : ℕ) → Holds (places_of stmts owner) stmts owner (length (variables_of stmts owner))
 places_hold stmts owner = record {
   variables = λ i m name used d own. variable_held stmts owner i (place_of (setting_at stmts i) (variable m name used)) (among stmts owner i m name used d own);

@@ -1,13 +1,9 @@
--- The variables of a procedure in front of a statement of it are as many as the counts say, and so are the INOUT ones among them.
-use Rattle.std.proofs.Common.{◌≡◌, ◌≢◌, ℕ, zero, suc, ◌+◌, ◌<◌, ◌≤◌, ◌∙◌, sym, ap, subst, refl, inl, inr, ◌⊎◌, true, false, List, [], ◌∷◌, ◌++◌, length, arith, nat_eq, if◌then◌else◌, append-nil, append_assoc}
-use Rattle.std.specs.Prelude.{Some, None, slice_get, filter}
-use Rattle.std.specs.List.{flat_map, range_with_len}
-use Rattle.std.proofs.lemmas.Bool.{cases_eq, cases_lt}
+-- In front of a statement of a procedure there are as many variables of it as are counted, and so many INOUT ones among them.
+use Rattle.std.proofs.Common.{◌≡◌, ◌≢◌, ℕ, zero, suc, ◌+◌, ◌<◌, ◌≤◌, ◌∙◌, sym, ap, subst, refl, inl, inr, ◌⊎◌, List, [], ◌∷◌, ◌++◌, length, arith, append-nil}
+use Rattle.std.specs.Prelude.{Some, slice_get, filter}
+use Rattle.std.proofs.lemmas.Bool.{cases_eq}
 use Rattle.std.proofs.lemmas.List.{length-append}
-use Rattle.std.proofs.lemmas.List.Concat.{flat_map-append}
 use Rattle.std.proofs.lemmas.List.Elements.{filter-append}
-use Rattle.std.proofs.lemmas.List.Sums.{fold_more}
-use Rattle.std.proofs.lemmas.Option.{get_or_from_slice_get, slice_get_within}
 use Rattle.il_core.specs.Checked.{is_copied}
 use Rattle.il_core.specs.Statement.{Statement, Placed, procedure, variable}
 use Rattle.il_core.specs.declared.line.Place.{Place}
@@ -17,74 +13,10 @@ use Rattle.il_core.specs.declared.statement.TypeUse.{TypeUse}
 use Rattle.il_types.specs.Built.{place_of}
 use Rattle.il_types.specs.declared.counts.Counts.{Counts}
 use Rattle.il_types.specs.Counts.{counts_behind}
-use Rattle.il_types.specs.Names.{Setting, Front, one_more, counts_at}
+use Rattle.il_types.specs.Names.{Setting, counts_at}
 use Rattle.il_built.specs.CheckedText.{of_procedure, declared_place}
 use Rattle.il_built.specs.Holding.{setting_at}
-
--- the statement of a number
-pub stands : (stmts : List Placed) (i : ℕ) → i < length stmts → (x : Placed) × (slice_get stmts i ≡ Some x)
-stands [] i h = absurd (omega arith)
-stands (x ∷ xs) zero h = (x, refl)
-stands (x ∷ xs) (suc i) h = stands xs i (omega arith)
-
--- the counts behind a statement
-pub counts_next : (stmts : List Placed) (i : ℕ) (x : Placed) → slice_get stmts i ≡ Some x → counts_at stmts (suc i) ≡ counts_behind (counts_at stmts i) x.says
-counts_next stmts i x there =
-    let later : suc i ≡ i + 1 = omega arith in
-    ap (λ n. counts_at stmts n) later
-    ∙ ap (λ (f : Front). f.counts) (fold_more one_more _ stmts i x (slice_get_within stmts i x there))
-    ∙ ap (λ (y : Placed). counts_behind (counts_at stmts i) y.says) (get_or_from_slice_get stmts i x x there)
-
--- one number more
-range_more : (a n : ℕ) → range_with_len a (suc n) ≡ range_with_len a n ++ (a + n) ∷ []
-range_more a zero = let e : a ≡ a + 0 = omega arith in ap (λ k. k ∷ []) e
-range_more a (suc n) =
-    let e : a + 1 + n ≡ a + suc n = omega arith in
-    ap (λ ks. a ∷ ks) (range_more (a + 1) n ∙ ap (λ k. range_with_len (a + 1) n ++ k ∷ []) e)
-
--- what the first n statements give to a procedure
-abbrev pub given_by : {A : Type 0} → (ℕ → Statement → List A) → List Placed → ℕ → ℕ → List A
-given_by give stmts owner n = flat_map (of_procedure give stmts owner) (range_with_len 0 n)
-
-pub given_next : {A : Type 0} (give : ℕ → Statement → List A) (stmts : List Placed) (owner n : ℕ)
-    → given_by give stmts owner (suc n) ≡ given_by give stmts owner n ++ of_procedure give stmts owner n
-given_next give stmts owner n =
-    let f = of_procedure give stmts owner in
-    let e : 0 + n ≡ n = omega arith in
-    ap (flat_map f) (range_more 0 n) ∙ flat_map-append f (range_with_len 0 n) ((0 + n) ∷ [])
-    ∙ ap (λ xs. flat_map f (range_with_len 0 n) ++ xs) (append-nil (f (0 + n)) ∙ ap f e)
-
--- a statement of the procedure gives what it gives, any other nothing
-pub given_here : {A : Type 0} (give : ℕ → Statement → List A) (stmts : List Placed) (owner i : ℕ) (x : Placed) → slice_get stmts i ≡ Some x
-    → (counts_at stmts i).procedures ≡ owner → of_procedure give stmts owner i ≡ give i x.says
-given_here give stmts owner i x there own =
-    ap (λ o. elim o [ None ↦ [] | Some y ↦ (if nat_eq (counts_at stmts i).procedures owner then give i y.says else []) ]) there
-    ∙ ap (λ b. if b then give i x.says else []) (same (counts_at stmts i).procedures owner own)
-  where
-    same : (a b : ℕ) → a ≡ b → nat_eq a b ≡ true
-    same a b h = grind arith
-
-pub not_given : {A : Type 0} (give : ℕ → Statement → List A) (stmts : List Placed) (owner i : ℕ) (x : Placed) → slice_get stmts i ≡ Some x
-    → (counts_at stmts i).procedures ≢ owner → of_procedure give stmts owner i ≡ []
-not_given give stmts owner i x there other =
-    ap (λ o. elim o [ None ↦ [] | Some y ↦ (if nat_eq (counts_at stmts i).procedures owner then give i y.says else []) ]) there
-    ∙ ap (λ b. if b then give i x.says else []) (differs (counts_at stmts i).procedures owner other)
-  where
-    differs : (a b : ℕ) → a ≢ b → nat_eq a b ≡ false
-    differs a b h = grind arith
-
--- what the first statements give is the front of what more of them give
-pub given_front : {A : Type 0} (give : ℕ → Statement → List A) (stmts : List Placed) (owner i n : ℕ) → i ≤ n
-    → (rest : List A) × (given_by give stmts owner n ≡ given_by give stmts owner i ++ rest)
-given_front give stmts owner i zero h =
-    let e : 0 ≡ i = omega arith in ([], ap (given_by give stmts owner) e ∙ sym (append-nil (given_by give stmts owner i)))
-given_front give stmts owner i (suc n) h = elim (cases_lt n i) [
-  | inl lt ↦ let e : suc n ≡ i = omega arith in ([], ap (given_by give stmts owner) e ∙ sym (append-nil (given_by give stmts owner i)))
-  | inr le ↦
-      let front = given_front give stmts owner i n le in
-      let last = of_procedure give stmts owner n in
-      (front.0 ++ last, given_next give stmts owner n ∙ ap (λ xs. xs ++ last) front.1 ∙ append_assoc (given_by give stmts owner i) front.0 last)
-]
+use Rattle.il_built.proofs.Given.{stands, counts_next, given_by, given_next, given_here, not_given}
 
 -- a statement that begins a procedure declares no variable
 record IsOpening (c behind : Counts) (ps : List Place) : Type 0 where
@@ -99,20 +31,16 @@ record IsCounted (c behind : Counts) (ps : List Place) : Type 0 where
   variables : behind.variables ≡ c.variables + length ps
   copies : behind.copies ≡ c.copies + length (filter is_copied ps)
 
-no_more : (c behind : Counts) → behind.procedures ≡ c.procedures → behind.variables ≡ c.variables → behind.copies ≡ c.copies
-    → IsOpening c behind [] ⊎ IsCounted c behind []
-no_more c behind p v k = inr (record { procedures = p; variables = omega arith; copies = omega arith })
-
+-- a variable counts itself
 declaring : (c : Counts) (s : Setting) (m : Mode) (name : List ℕ) (used : TypeUse) → IsCounted c (counts_behind c (variable m name used)) (place_of s (variable m name used) ∷ [])
-declaring c s mode.Input name used = record { procedures = refl; variables = refl; copies = refl }
 declaring c s mode.InOut name used = record { procedures = refl; variables = refl; copies = refl }
-declaring c s mode.Output name used = record { procedures = refl; variables = refl; copies = refl }
-declaring c s mode.Local name used = record { procedures = refl; variables = refl; copies = refl }
+declaring c s _ name used = record { procedures = refl; variables = refl; copies = refl }
 
+-- each statement is of one of these sorts
 counted : (c : Counts) (s : Setting) (x : Statement) → IsOpening c (counts_behind c x) (declared_place s x) ⊎ IsCounted c (counts_behind c x) (declared_place s x)
 counted c s (procedure name) = inl (record { procedures = refl; variables = refl; copies = refl; none = refl })
 counted c s (variable m name used) = inr (declaring c s m name used)
-counted c s _ = no_more c _ refl refl refl
+counted c s _ = inr (record { procedures = refl; variables = omega arith; copies = omega arith })
 
 -- the variables of a procedure among the first n statements
 abbrev pub variables_to : List Placed → ℕ → ℕ → List Place
@@ -128,9 +56,8 @@ pub record AreCounted (c : Counts) (owner : ℕ) (ps : List Place) : Type 0 wher
 one_further : (c behind : Counts) (owner : ℕ) (ps ds gs : List Place) → AreCounted c owner ps → IsOpening c behind ds ⊎ IsCounted c behind ds
     → (c.procedures ≡ owner → gs ≡ ds) → (c.procedures ≢ owner → gs ≡ []) → AreCounted behind owner (ps ++ gs)
 one_further c behind owner ps ds gs a (inl o) own other =
-    let nothing : gs ≡ [] = elim (cases_eq c.procedures owner) [ | inl e ↦ own e ∙ o.none | inr n ↦ other n ] in
+    let nothing : gs ≡ [] = elim (cases_eq c.procedures owner) [ inl e ↦ own e ∙ o.none | inr n ↦ other n ] in
     let same : ps ++ gs ≡ ps = ap (λ xs. ps ++ xs) nothing ∙ append-nil ps in
-    let opens = o.procedures in
     let first : behind.procedures ≡ owner → ps ++ gs ≡ [] = λ h. same ∙ a.before (omega arith) in
     record {
       before = λ h. same ∙ a.before (omega arith);
@@ -138,7 +65,6 @@ one_further c behind owner ps ds gs a (inl o) own other =
       copies = λ h. ap (λ xs. length (filter is_copied xs)) (first h) ∙ sym o.copies;
     }
 one_further c behind owner ps ds gs a (inr k) own other =
-    let stays = k.procedures in
     record {
       before = λ h. let lt : c.procedures < owner = omega arith in ap (λ xs. xs ++ gs) (a.before lt) ∙ other (omega arith);
       variables = λ h. let e : c.procedures ≡ owner = omega arith in
@@ -148,7 +74,8 @@ one_further c behind owner ps ds gs a (inr k) own other =
           ∙ ap (λ xs. length (filter is_copied ps) + length (filter is_copied xs)) (own e) ∙ ap (λ n. n + length (filter is_copied ds)) (a.copies e) ∙ sym k.copies;
     }
 
-pub variables_next : (stmts : List Placed) (owner i : ℕ) (x : Placed) → slice_get stmts i ≡ Some x
+-- behind one statement more they are counted too
+variables_next : (stmts : List Placed) (owner i : ℕ) (x : Placed) → slice_get stmts i ≡ Some x
     → AreCounted (counts_at stmts i) owner (variables_to stmts owner i) → AreCounted (counts_at stmts (suc i)) owner (variables_to stmts owner (suc i))
 variables_next stmts owner i x there a =
     let give = λ (k : ℕ) (y : Statement). declared_place (setting_at stmts k) y in
@@ -158,6 +85,7 @@ variables_next stmts owner i x there a =
     subst (λ (d : Counts). AreCounted d owner (variables_to stmts owner (suc i))) (sym (counts_next stmts i x there))
     (subst (AreCounted (counts_behind c x.says) owner) (sym (given_next give stmts owner i)) next)
 
+-- the variables in front of each statement are counted
 pub variables_counted : (stmts : List Placed) (owner i : ℕ) → i ≤ length stmts → AreCounted (counts_at stmts i) owner (variables_to stmts owner i)
 variables_counted stmts owner zero h = record { before = λ lt. refl; variables = λ e. refl; copies = λ e. refl }
 variables_counted stmts owner (suc i) h =

@@ -1,11 +1,10 @@
 -- In a text in order each variable stands in a procedure, and in front of its PRE.
 use Rattle.std.proofs.Common.{◌≡◌, ◌≢◌, ℕ, zero, suc, ◌+◌, ◌<◌, ◌≤◌, ◌∙◌, sym, ap, subst, refl, inl, inr, ◌⊎◌, not, Bool, true, false, ◌&&◌, List, [], ◌∷◌, length, drop, arith}
-use Rattle.std.specs.Prelude.{Option, Some, None, slice_get}
+use Rattle.std.specs.Prelude.{Some, slice_get}
 use Rattle.std.proofs.Math.Seq.{drop-cons}
 use Rattle.std.proofs.lemmas.Bool.{cases_lt}
 use Rattle.std.proofs.lemmas.Option.{get_or_from_slice_get, slice_get_within}
 use Rattle.il_core.specs.Statement.{Statement, Placed, procedure, variable}
-use Rattle.il_core.specs.declared.line.Place.{Place}
 use Rattle.il_syntax.specs.declared.order.Part.{Part}
 use Rattle.il_syntax.specs.declared.order.Part.TheVariants as part
 use Rattle.il_syntax.specs.declared.order.Stage.{Stage}
@@ -18,7 +17,8 @@ use Rattle.il_built.specs.CheckedText.{declared_place, variables_of}
 use Rattle.il_built.specs.Holding.{setting_at, AreOwned}
 use Rattle.il_built.proofs.BuiltSorts.{both_true, none_some}
 use Rattle.il_built.proofs.Entered.{bound}
-use Rattle.il_built.proofs.VariablesCounted.{stands, counts_next, none_here, variables_to, variables_counted}
+use Rattle.il_built.proofs.Given.{stands, counts_next}
+use Rattle.il_built.proofs.VariablesCounted.{none_here, variables_to, variables_counted}
 
 -- a procedure has begun
 abbrev is_opened : Stage → Bool
@@ -33,16 +33,18 @@ is_past at.Declarations = false
 is_past at.Variables = false
 is_past _ = true
 
+-- whether a procedure has begun behind a part, by whether one has in front of it
 abbrev opens : Part → Bool → Bool
 opens part.Opening b = true
 opens _ b = b
 
+-- whether the variables of the latest procedure are behind after a part, by whether they are in front of it
 abbrev passes : Part → Bool → Bool
 passes part.Opening b = false
 passes part.Precondition b = true
 passes _ b = b
 
--- whether a part may stand behind the variables of the latest procedure, if there is one
+-- whether a part may stand where the variables of the latest procedure are behind, and where a procedure has begun
 abbrev may_stand : Part → Bool → Bool → Bool
 may_stand part.Variable past opened = not past && opened
 may_stand part.Postcondition past opened = past
@@ -50,22 +52,28 @@ may_stand part.Body past opened = past
 may_stand part.Closing past opened = past
 may_stand _ past opened = true
 
+-- what a part makes of a stage
 record IsStep (stage after : Stage) (p : Part) : Type 0 where
   opened : is_opened after ≡ opens p (is_opened stage)
   past : is_past after ≡ passes p (is_past stage)
   stands : may_stand p (is_past stage) (is_opened stage) ≡ true
 
+-- the stage that a part leads to is one alone
+arrives : (stage t after : Stage) (p : Part) → Some t ≡ Some after → IsStep stage t p → IsStep stage after p
+arrives stage t after p e s = let f : t ≡ after = cc in subst (λ u. IsStep stage u p) f s
+
+-- each part that may stand at a stage makes this of it
 step : (stage : Stage) (p : Part) (after : Stage) → next stage p ≡ Some after → IsStep stage after p
-step at.Start part.Title after e = let f : at.Declarations ≡ after = cc in record { opened = ap is_opened (sym f); past = ap is_past (sym f); stands = refl }
-step at.Declarations part.Declaration after e = let f : at.Declarations ≡ after = cc in record { opened = ap is_opened (sym f); past = ap is_past (sym f); stands = refl }
-step at.Declarations part.Opening after e = let f : at.Variables ≡ after = cc in record { opened = ap is_opened (sym f); past = ap is_past (sym f); stands = refl }
-step at.Variables part.Variable after e = let f : at.Variables ≡ after = cc in record { opened = ap is_opened (sym f); past = ap is_past (sym f); stands = refl }
-step at.Variables part.Precondition after e = let f : at.Postcondition ≡ after = cc in record { opened = ap is_opened (sym f); past = ap is_past (sym f); stands = refl }
-step at.Postcondition part.Postcondition after e = let f : at.Body ≡ after = cc in record { opened = ap is_opened (sym f); past = ap is_past (sym f); stands = refl }
-step at.Body part.Body after e = let f : at.Body ≡ after = cc in record { opened = ap is_opened (sym f); past = ap is_past (sym f); stands = refl }
-step at.Body part.Closing after e = let f : at.Procedures ≡ after = cc in record { opened = ap is_opened (sym f); past = ap is_past (sym f); stands = refl }
-step at.Procedures part.Opening after e = let f : at.Variables ≡ after = cc in record { opened = ap is_opened (sym f); past = ap is_past (sym f); stands = refl }
-step at.Procedures part.Finish after e = let f : at.Done ≡ after = cc in record { opened = ap is_opened (sym f); past = ap is_past (sym f); stands = refl }
+step at.Start part.Title after e = arrives at.Start at.Declarations after part.Title e (record { opened = refl; past = refl; stands = refl })
+step at.Declarations part.Declaration after e = arrives at.Declarations at.Declarations after part.Declaration e (record { opened = refl; past = refl; stands = refl })
+step at.Declarations part.Opening after e = arrives at.Declarations at.Variables after part.Opening e (record { opened = refl; past = refl; stands = refl })
+step at.Variables part.Variable after e = arrives at.Variables at.Variables after part.Variable e (record { opened = refl; past = refl; stands = refl })
+step at.Variables part.Precondition after e = arrives at.Variables at.Postcondition after part.Precondition e (record { opened = refl; past = refl; stands = refl })
+step at.Postcondition part.Postcondition after e = arrives at.Postcondition at.Body after part.Postcondition e (record { opened = refl; past = refl; stands = refl })
+step at.Body part.Body after e = arrives at.Body at.Body after part.Body e (record { opened = refl; past = refl; stands = refl })
+step at.Body part.Closing after e = arrives at.Body at.Procedures after part.Closing e (record { opened = refl; past = refl; stands = refl })
+step at.Procedures part.Opening after e = arrives at.Procedures at.Variables after part.Opening e (record { opened = refl; past = refl; stands = refl })
+step at.Procedures part.Finish after e = arrives at.Procedures at.Done after part.Finish e (record { opened = refl; past = refl; stands = refl })
 step _ _ after e = none_some after e
 
 -- the parts that stand behind the variables of their procedure
@@ -76,6 +84,7 @@ is_behind part.Body = true
 is_behind part.Closing = true
 is_behind _ = false
 
+-- behind such a part the variables are behind
 now_past : (p : Part) (past opened : Bool) → is_behind p ≡ true → may_stand p past opened ≡ true → passes p past ≡ true
 now_past part.Precondition past opened h m = refl
 now_past part.Postcondition past opened h m = m
@@ -83,18 +92,15 @@ now_past part.Body past opened h m = m
 now_past part.Closing past opened h m = m
 now_past _ past opened h m = absurd (cc)
 
--- a statement begins a procedure, or it leaves the number of procedures as it is
-record IsFirst (c behind : Counts) (p : Part) : Type 0 where
-  opening : p ≡ part.Opening
-  procedures : behind.procedures ≡ c.procedures + 1
-
+-- a statement that begins no procedure
 record IsInside (c behind : Counts) (p : Part) : Type 0 where
   opened : (b : Bool) → opens p b ≡ b
   past : passes p true ≡ true
   procedures : behind.procedures ≡ c.procedures
 
-first_or_inside : (c : Counts) (x : Statement) → IsFirst c (counts_behind c x) (part_of x) ⊎ IsInside c (counts_behind c x) (part_of x)
-first_or_inside c (procedure name) = inl (record { opening = refl; procedures = refl })
+-- a statement begins a procedure, or it leaves the number of procedures as it is
+first_or_inside : (c : Counts) (x : Statement) → ((counts_behind c x).procedures ≡ c.procedures + 1) ⊎ IsInside c (counts_behind c x) (part_of x)
+first_or_inside c (procedure name) = inl refl
 first_or_inside c _ = inr (record { opened = λ b. refl; past = refl; procedures = refl })
 
 -- a statement that may stand behind all variables of a procedure declares none
@@ -102,10 +108,12 @@ declares_none : (s : Setting) (x : Statement) (opened : Bool) → may_stand (par
 declares_none s (variable m name used) opened h = absurd (cc)
 declares_none s _ opened h = refl
 
+-- nor does one that stands behind them by its part
 behind_declares_none : (s : Setting) (x : Statement) → is_behind (part_of x) ≡ true → declared_place s x ≡ []
 behind_declares_none s (variable m name used) h = absurd (cc)
 behind_declares_none s _ h = refl
 
+-- and it begins no procedure
 same_procedure : (c : Counts) (x : Statement) → is_behind (part_of x) ≡ true → (counts_behind c x).procedures ≡ c.procedures
 same_procedure c (procedure name) h = absurd (cc)
 same_procedure c _ h = refl
@@ -115,11 +123,13 @@ record IsAt (stmts : List Placed) (i : ℕ) (stage : Stage) : Type 0 where
   rest : run stage (drop i stmts) ≡ Some at.Done
   opened : is_opened stage ≡ true → (counts_at stmts i).procedures ≢ 0
 
+-- the stage behind it
 record GoesOn (stmts : List Placed) (i : ℕ) (stage : Stage) (p : Part) : Type 0 where
   after : Stage
   step : IsStep stage after p
   is : IsAt stmts (suc i) after
 
+-- each statement of a text in order goes on
 goes_on : (stmts : List Placed) (i : ℕ) (stage : Stage) (x : Placed) → slice_get stmts i ≡ Some x → IsAt stmts i stage → GoesOn stmts i stage (part_of x.says)
 goes_on stmts i stage x there a =
     let c = counts_at stmts i in
@@ -135,15 +145,13 @@ goes_on stmts i stage x there a =
       is = record {
         rest = found.2;
         opened = λ h. elim (first_or_inside c x.says) [
-          | inl f ↦ let more = f.procedures in omega (arith, counts)
-          | inr k ↦
-              let before = a.opened (sym (k.opened (is_opened stage)) ∙ sym s.opened ∙ h) in
-              let same = k.procedures in
-              omega (arith, counts)
+          | inl first ↦ omega arith
+          | inr k ↦ let before = a.opened (sym (k.opened (is_opened stage)) ∙ sym s.opened ∙ h) in omega arith
         ];
       };
     }
 
+-- there is a stage in front of each statement
 stage_at : (stmts : List Placed) (i : ℕ) → IsInOrder stmts → i ≤ length stmts → (stage : Stage) × IsAt stmts i stage
 stage_at stmts zero o h = (at.Start, record { rest = o; opened = λ e. absurd (cc) })
 stage_at stmts (suc i) o h =
@@ -168,6 +176,7 @@ record IsPassed (stmts : List Placed) (owner i : ℕ) : Type 0 where
   is : IsAt stmts i stage
   passed : (owner < (counts_at stmts i).procedures) ⊎ (((counts_at stmts i).procedures ≡ owner) × (is_past stage ≡ true))
 
+-- one statement more has no variable of the procedure
 passed_next : (stmts : List Placed) (owner i : ℕ) (x : Placed) → slice_get stmts i ≡ Some x → IsPassed stmts owner i
     → IsPassed stmts owner (suc i) × (variables_to stmts owner (suc i) ≡ variables_to stmts owner i)
 passed_next stmts owner i x there q =
@@ -178,25 +187,22 @@ passed_next stmts owner i x there q =
     let later : owner < behind.procedures → IsPassed stmts owner (suc i) × (variables_to stmts owner (suc i) ≡ variables_to stmts owner i) =
     λ lt. (record { stage = g.after; is = g.is; passed = inl lt }, none_here stmts owner i x there (inl (λ e. omega arith))) in
     elim (first_or_inside c x.says) [
-      | inl f ↦
-          let more = f.procedures in
-          let at_least : owner ≤ c.procedures = elim q.passed [ | inl lt ↦ omega arith | inr own ↦ let e = own.0 in omega arith ] in
+      | inl first ↦
+          let at_least : owner ≤ c.procedures = elim q.passed [ inl lt ↦ omega arith | inr own ↦ omega arith ] in
           later (omega arith)
       | inr k ↦
-          let same = k.procedures in
           elim q.passed [
             | inl lt ↦ later (omega arith)
             | inr own ↦
-                let e = own.0 in
                 let past = g.step.past ∙ ap (passes (part_of x.says)) own.1 ∙ k.past in
-                let stands = ap (λ b. may_stand (part_of x.says) b (is_opened q.stage)) (sym own.1) ∙ g.step.stands in
-                (
+                let stands = ap (λ b. may_stand (part_of x.says) b (is_opened q.stage)) (sym own.1) ∙ g.step.stands in (
                   record { stage = g.after; is = g.is; passed = inr (omega arith, past) },
                   none_here stmts owner i x there (inr (declares_none (setting_at stmts i) x.says (is_opened q.stage) stands)),
                 )
           ]
     ]
 
+-- no statement behind them has
 all_passed : (stmts : List Placed) (owner i n : ℕ) → i ≤ n → n ≤ length stmts → IsPassed stmts owner i
     → IsPassed stmts owner n × (variables_to stmts owner n ≡ variables_to stmts owner i)
 all_passed stmts owner i zero h k q = let e : i ≡ 0 = omega arith in (subst (IsPassed stmts owner) e q, sym (ap (variables_to stmts owner) e))

@@ -1,6 +1,6 @@
 -- A text without a fault keeps each rule, and the counts in front of each of its statements and at its end keep the limits.
 use Rattle.std.proofs.Common.{◌≡◌, ℕ, zero, suc, ◌+◌, ◌≤◌, sym, subst, refl, Bool, true, false, List, length, arith, if◌then◌else◌}
-use Rattle.std.specs.Prelude.{Some, None, slice_get, nat_lt}
+use Rattle.std.specs.Prelude.{Some, None, nat_lt}
 use Rattle.std.specs.Option.{option_map}
 use Rattle.il_core.specs.Statement.{Placed}
 use Rattle.il_core.specs.declared.refusal.Code.TheVariants as code
@@ -11,7 +11,7 @@ use Rattle.il_types.specs.Counts.{counts_behind, too_many}
 use Rattle.il_types.specs.Names.{front_of, counts_at}
 use Rattle.il_types.specs.Rules.{unnamed, broken, ComesNowhere, Answers}
 use Rattle.il_built.proofs.BuiltRanges.{nowhere_at}
-use Rattle.il_built.proofs.VariablesCounted.{stands, counts_next}
+use Rattle.il_built.proofs.Given.{stands, counts_next}
 
 -- no statement breaks one of these rules
 pub record KeepsRules (stmts : List Placed) : Type 0 where
@@ -21,6 +21,7 @@ pub record KeepsRules (stmts : List Placed) : Type 0 where
   pub narrow : ComesNowhere (broken rule.Narrow (front_of stmts).table stmts) stmts
   pub limited : ComesNowhere (broken rule.Limited (front_of stmts).table stmts) stmts
 
+-- the statements of a text without a fault break none
 pub keeps_rules : (stmts : List Placed) → Answers stmts None → KeepsRules stmts
 keeps_rules stmts a = record {
   typed = a.1.1.0;
@@ -36,6 +37,7 @@ pub record AreWithinLimits (c : Counts) : Type 0 where
   pub lines : c.lines ≤ 1000
   pub places : c.variables + c.copies ≤ 64
 
+-- counts of which there is not too much
 within_limits : (c : Counts) → option_map (λ m. unnamed (code.TooMany m)) (too_many c) ≡ None → AreWithinLimits c
 within_limits c h = by (nat_lt 64 c.procedures) (nat_lt 1000 c.lines) (nat_lt 64 (c.variables + c.copies)) refl refl refl h
   where
