@@ -10,3 +10,16 @@ pub mod WithoutFault
 pub mod CheckedPlaces
 pub mod PlacesHold
 pub mod CheckedExpressions
+pub mod CheckedLinesUpto
+pub mod CheckedLinesGiven
+pub mod CheckedLinesRising
+pub mod CheckedLinesCounts
+pub mod CheckedLinesOrder
+pub mod CheckedLinesBlocks
+pub mod CheckedLinesNested
+pub mod CheckedLinesNumbered
+pub mod CheckedLinesEnd
+pub mod CheckedLinesJumps
+pub mod CheckedLinesReturns
+pub mod CheckedLinesFit
+pub mod CheckedLinesWhole

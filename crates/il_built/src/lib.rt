@@ -3,7 +3,9 @@
 #![tactic(auto)]
 
 mod expressions;
+mod laws;
 mod places;
 
 pub use expressions::{build_expression, place_of_name};
+pub use laws::procedures_are_checked;
 pub use places::build_place;
