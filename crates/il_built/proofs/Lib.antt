@@ -1,4 +1,6 @@
 pub mod Entered
+pub mod ProcedureCounts
+pub mod Gathered
 pub mod BuiltSorts
 pub mod BuiltBounds
 pub mod BuiltFits

@@ -1,3 +1,4 @@
 pub mod Holding
+pub mod Span
 pub mod CheckedText
 pub mod Laws

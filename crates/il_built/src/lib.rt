@@ -4,6 +4,8 @@
 
 mod expressions;
 mod places;
+mod spans;
+mod variables;
 
 pub use expressions::{build_expression, place_of_name};
 pub use places::build_place;
