@@ -2,7 +2,8 @@
 use Rattle.std.proofs.Common.{◌≡◌, ℕ, zero, suc, ◌+◌, ◌-◌, ◌<◌, ◌≤◌, ◌∙◌, sym, ap, subst, refl, Bool, true, false, List, [], ◌∷◌, ◌++◌, length, arith, nat_eq, if◌then◌else◌, append_assoc, append-nil, zero-add, get_or}
 use Rattle.std.specs.Prelude.{◌≢◌, Option, Some, None, map, slice_get}
 use Rattle.std.specs.List.{flat_map, range_with_len}
-use Rattle.std.proofs.lemmas.List.{length-map}
+use Rattle.std.specs.Option.{option_to_list, option_map}
+use Rattle.std.proofs.lemmas.List.{length-map, map-append}
 use Rattle.std.proofs.lemmas.List.Concat.{flat_map-append}
 use Rattle.il_core.specs.Statement.{Statement, Placed, placed, statement_of}
 use Rattle.il_core.specs.declared.statement.Stmt.{Stmt}
@@ -112,3 +113,36 @@ gathered_step {A} say stmts table owner from to i x old new now t s le lt e o n 
         n ∙ ap (λ (z : Setting). say z i (statement_of (get_or stmts i x).form)) (setting_is all table owner from to i t s le lt)
         ∙ ap (λ (y : Stmt). give i (statement_of y.form)) (sym e) in
     grown ∙ ap (λ xs. xs ++ now) o ∙ ap (λ xs. gathered give all owner i ++ xs) said ∙ sym (gathered_more give all owner from to i (placed x) s le lt there)
+
+-- what is given behind some statements stands behind what they give
+gathered_longer : {A : Type 0} (give : ℕ → Statement → List A) (stmts : List Placed) (owner m k : ℕ)
+    → (rest : List A) × (gathered give stmts owner (m + k) ≡ gathered give stmts owner m ++ rest)
+gathered_longer give stmts owner m zero =
+    let e : m + 0 ≡ m = omega arith in ([], ap (gathered give stmts owner) e ∙ sym (append-nil (gathered give stmts owner m)))
+gathered_longer give stmts owner m (suc k) =
+    let e : m + suc k ≡ suc (m + k) = omega arith in
+    let r = gathered_longer give stmts owner m k in
+    let x = of_procedure give stmts owner (m + k) in
+    (r.0 ++ x, ap (gathered give stmts owner) e ∙ gathered_next give stmts owner (m + k) ∙ ap (λ xs. xs ++ x) r.1 ∙ append_assoc (gathered give stmts owner m) r.0 x)
+
+-- what is given first
+pub given_first : {A : Type 0} (say : Setting → ℕ → Statement → List A) (stmts : List Stmt) (table : Table) (owner from to i : ℕ) (x : Stmt) (a : A)
+    → table ≡ (front_of (map placed stmts)).table → AreStatementsOf (map placed stmts) owner from to → from ≤ i → i < to → x ≡ get_or stmts i x
+    → gathered (λ k s. say (setting_at (map placed stmts) k) k s) (map placed stmts) owner i ≡ []
+    → a ∷ [] ≡ say (setting table (map placed stmts) owner i) i (statement_of (get_or stmts i x).form)
+    → (rest : List A) × (given (λ k s. say (setting_at (map placed stmts) k) k s) (map placed stmts) owner ≡ a ∷ rest)
+given_first {A} say stmts table owner from to i x a t s le lt e none n =
+    let all = map placed stmts in
+    let give : ℕ → Statement → List A = λ k y. say (setting_at all k) k y in
+    let here = gathered_step say stmts table owner from to i x [] (a ∷ []) (a ∷ []) t s le lt e (sym none) n refl in
+    let j : i + 1 + (to - (i + 1)) ≡ to = omega arith in
+    let more = gathered_longer give all owner (i + 1) (to - (i + 1)) in
+    (more.0, sym (gathered_end give all owner from to s) ∙ sym (ap (gathered give all owner) j) ∙ more.1 ∙ ap (λ xs. xs ++ more.0) (sym here))
+
+-- a list with one element more, or with none
+pub one_more : {A B : Type 0} (f : A → B) (old new : List A) (a : A) (o : Option A) → new ≡ old ++ a ∷ [] → o ≡ Some a
+    → map f new ≡ map f old ++ option_to_list (option_map f o)
+one_more f old new a o e is = ap (map f) e ∙ map-append f old (a ∷ []) ∙ sym (ap (λ p. map f old ++ option_to_list (option_map f p)) is)
+
+pub no_more : {A B : Type 0} (f : A → B) (old new : List A) (o : Option A) → new ≡ old → o ≡ None → map f new ≡ map f old ++ option_to_list (option_map f o)
+no_more f old new o e is = ap (map f) e ∙ sym (append-nil (map f old)) ∙ sym (ap (λ p. map f old ++ option_to_list (option_map f p)) is)

@@ -3,7 +3,9 @@
 #![tactic(auto)]
 
 mod expressions;
+mod lines;
 mod places;
+mod procedures;
 mod spans;
 mod variables;
 

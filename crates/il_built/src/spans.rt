@@ -6,8 +6,16 @@ ghost use Rattle.il_built.specs.Span.{IsOpening, AreStatementsOf};
 use il_core::Stmt;
 use il_types::{Counts, counts_before};
 
-/// The number behind the last statement of the procedure numbered `owner`, whose PROC is statement `at`. Linear in the procedure.
-pub(crate) fn end_of(counts: &[Counts], stmts: &[Stmt], owner: usize, at: usize) -> usize
+/// The statements of the procedure numbered `owner`: those numbered from `from` on and before `to`.
+#[derive(Clone, Copy, Debug)]
+pub(crate) struct Span {
+    pub owner: usize,
+    pub from: usize,
+    pub to: usize,
+}
+
+/// The number behind the last statement of the procedure numbered `owner`, whose PROC is statement `at`.
+fn end_of(counts: &[Counts], stmts: &[Stmt], owner: usize, at: usize) -> usize
     requires counted { AreCounted (map placed stmts.now) counts.now }
     requires within { at < length stmts.now }
     requires opening { IsOpening (map placed stmts.now) owner at }
@@ -19,4 +27,17 @@ pub(crate) fn end_of(counts: &[Counts], stmts: &[Stmt], owner: usize, at: usize)
         }
     }
     stmts.len()
+}
+
+/// The statements of the procedure numbered `owner`, whose PROC is statement `at`. Linear in the procedure.
+pub(crate) fn span_of(counts: &[Counts], stmts: &[Stmt], owner: usize, at: usize) -> Span
+    requires counted { AreCounted (map placed stmts.now) counts.now }
+    requires within { at < length stmts.now }
+    requires opening { IsOpening (map placed stmts.now) owner at }
+    ensures owner { result.owner ≡ owner }
+    ensures statements { AreStatementsOf (map placed stmts.now) result.owner result.from result.to }
+{
+    let from = at + 1;
+    let to = end_of(counts, stmts, owner, at);
+    Span { owner, from, to }
 }

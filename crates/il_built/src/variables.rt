@@ -8,6 +8,7 @@ ghost use Rattle.il_built.specs.CheckedText.{declared_place, variables_of, with_
 ghost use Rattle.il_built.specs.Span.{AreStatementsOf};
 
 use crate::places::build_place;
+use crate::spans::Span;
 use il_core::{Form, List, Mode, NoMemory, Place, Stmt};
 use il_types::{Counts, Names};
 use std::alloc::Global;
@@ -33,24 +34,22 @@ fn declared_place(
     }
 }
 
-/// The places of the variables of procedure `owner`, whose statements are those from `from` on and before `to`.
+/// The places of the variables of the procedure with these statements.
 fn variables_of(
     alloc: Global,
     names: &Names,
     counts: &[Counts],
     stmts: &[Stmt],
-    owner: usize,
-    from: usize,
-    to: usize,
+    span: Span,
 ) -> Result<Vec<Place>, NoMemory>
     requires counted { AreCounted (map placed stmts.now) counts.now }
     requires names { names.now ≡ (front_of (map placed stmts.now)).table }
-    requires statements { AreStatementsOf (map placed stmts.now) owner from to }
-    ensures { IfOk result (λ v. v.items ≡ variables_of (map placed stmts.now) owner) }
+    requires statements { AreStatementsOf (map placed stmts.now) span.owner span.from span.to }
+    ensures { IfOk result (λ v. v.items ≡ variables_of (map placed stmts.now) span.owner) }
 {
     let mut places = Vec::new(alloc);
-    for i in from..to {
-        if let Some(place) = declared_place(names, counts, stmts, owner, i, &stmts[i].form)? {
+    for i in span.from..span.to {
+        if let Some(place) = declared_place(names, counts, stmts, span.owner, i, &stmts[i].form)? {
             places.push(place)?;
         }
     }
@@ -69,23 +68,21 @@ fn copies_of(alloc: Global, variables: &[Place]) -> Result<Vec<Place>, NoMemory>
     Ok(copies)
 }
 
-/// The places of procedure `owner`, whose statements are those from `from` on and before `to`: its variables in the order of their
-/// declarations, and then the OLD copies of the INOUT ones. Linear but for the look-ups by name.
+/// The places of the procedure with these statements: its variables in the order of their declarations, and then the OLD copies of
+/// the INOUT ones. Linear but for the look-ups by name.
 pub(crate) fn places_of(
     alloc: Global,
     names: &Names,
     counts: &[Counts],
     stmts: &[Stmt],
-    owner: usize,
-    from: usize,
-    to: usize,
+    span: Span,
 ) -> Result<List<Place>, NoMemory>
     requires counted { AreCounted (map placed stmts.now) counts.now }
     requires names { names.now ≡ (front_of (map placed stmts.now)).table }
-    requires statements { AreStatementsOf (map placed stmts.now) owner from to }
-    ensures { IfOk result (λ v. v ≡ places_of (map placed stmts.now) owner) }
+    requires statements { AreStatementsOf (map placed stmts.now) span.owner span.from span.to }
+    ensures { IfOk result (λ v. v ≡ places_of (map placed stmts.now) span.owner) }
 {
-    let mut places = variables_of(alloc, names, counts, stmts, owner, from, to)?;
+    let mut places = variables_of(alloc, names, counts, stmts, span)?;
     let copies = copies_of(alloc, places.as_slice())?;
     places.extend_from_slice(copies.as_slice())?;
     Ok(List::from_vec(places))

@@ -14,12 +14,12 @@ pub loop-i-init : goal.loop-i-init
 loop-i-init c =
     let stmts = map placed c.args.stmts.now in
     let give : ℕ → Statement → List Place = λ i x. declared_place (setting_at stmts i) x in
-    c.new-places.ensures.items ∙ sym (gathered_start give stmts c.args.owner c.args.from c.args.to c.requires.statements)
+    c.new-places.ensures.items ∙ sym (gathered_start give stmts c.args.span.owner c.args.span.from c.args.span.to c.requires.statements)
 
 pub loop-i-preserved : goal.loop-i-preserved
 loop-i-preserved c =
     let say : Setting → ℕ → Statement → List Place = λ s i x. declared_place s x in
-    gathered_step say c.args.stmts.now c.args.names.now c.args.owner c.args.from c.args.to c.loop-i.i c.index-stmts-i.result
+    gathered_step say c.args.stmts.now c.args.names.now c.args.span.owner c.args.span.from c.args.span.to c.loop-i.i c.index-stmts-i.result
     c.loop-i.places.items c.match-branch-2.places.items (option_to_list c.in_ok-place.field-0)
     c.requires.names c.requires.statements c.loop-i.auto.i c.loop-i-test.true c.index-stmts-i.is c.loop-i.invariant c.in_ok-place.ensures
     (elim c.match-branch-2.branch [
@@ -39,5 +39,5 @@ returns c =
     let give : ℕ → Statement → List Place = λ i x. declared_place (setting_at stmts i) x in
     let s = c.requires.statements in
     let ordered = s.ordered in
-    let e : c.loop-i.i ≡ c.args.to = omega arith in
-    c.loop-i.invariant ∙ ap (gathered give stmts c.args.owner) e ∙ gathered_end give stmts c.args.owner c.args.from c.args.to s
+    let e : c.loop-i.i ≡ c.args.span.to = omega arith in
+    c.loop-i.invariant ∙ ap (gathered give stmts c.args.span.owner) e ∙ gathered_end give stmts c.args.span.owner c.args.span.from c.args.span.to s

@@ -7,4 +7,4 @@ use Rattle.il_built.proofs.Gathered.{gathered}
 use Rattle.il_built.proofs.variables.variables_of.Given as goal
 
 abbrev pub invariant-loop-i : goal.invariant-loop-i
-invariant-loop-i l = l.places.items ≡ gathered (λ i x. declared_place (setting_at (map placed l.stmts) i) x) (map placed l.stmts) l.owner l.i
+invariant-loop-i l = l.places.items ≡ gathered (λ i x. declared_place (setting_at (map placed l.stmts) i) x) (map placed l.stmts) l.span.owner l.i
