@@ -16,7 +16,7 @@ use Rattle.il_built.specs.CheckedText.{named, procedure_of, procedure_names, pro
 use Rattle.il_built.proofs.ProcedureCounts.{counts_next}
 
 -- the names of one statement more
-pub names_next : (stmts : List Placed) (i : ℕ) (x : Placed) → slice_get stmts i ≡ Some x → procedure_names (take (i + 1) stmts) ≡ procedure_names (take i stmts) ++ named x
+names_next : (stmts : List Placed) (i : ℕ) (x : Placed) → slice_get stmts i ≡ Some x → procedure_names (take (i + 1) stmts) ≡ procedure_names (take i stmts) ++ named x
 names_next stmts i x e =
     let h = slice_get_within stmts i x e in
     ap procedure_names (take_more stmts i x h) ∙ flat_map-append named (take i stmts) (get_or stmts i x ∷ [])
@@ -72,7 +72,7 @@ procedures_append stmts links owner (name ∷ a) b =
     ap (λ ps. first ∷ ps) (procedures_append stmts links (suc owner) a b ∙ ap (λ n. procedures_from stmts links (suc owner) a ++ procedures_from stmts links n b) e)
 
 -- the procedures with one statement more
-pub procedures_next : (stmts : List Placed) (links : List Link) (i : ℕ) (x : Placed) → slice_get stmts i ≡ Some x
+procedures_next : (stmts : List Placed) (links : List Link) (i : ℕ) (x : Placed) → slice_get stmts i ≡ Some x
     → procedures_from stmts links 1 (procedure_names (take (i + 1) stmts))
     ≡ procedures_from stmts links 1 (procedure_names (take i stmts)) ++ procedures_from stmts links (1 + (counts_at stmts i).procedures) (named x)
 procedures_next stmts links i x e =
@@ -80,3 +80,28 @@ procedures_next stmts links i x e =
     let front = procedure_names (take i stmts) in
     ap (procedures_from stmts links 1) (names_next stmts i x e) ∙ procedures_append stmts links 1 front (named x)
     ∙ ap (λ n. procedures_from stmts links 1 front ++ procedures_from stmts links (1 + n) (named x)) (names_counted stmts x i (omega arith))
+
+-- the procedures in front of the next statement
+pub counted_next : (stmts : List Placed) (i : ℕ) (x : Placed) → slice_get stmts i ≡ Some x → (counts_at stmts (i + 1)).procedures ≡ (counts_at stmts i).procedures + length (named x)
+counted_next stmts i x e =
+    let n : i + 1 ≡ suc i = omega arith in
+    ap (λ k. (counts_at stmts k).procedures) n ∙ ap (λ (c : Counts). c.procedures) (counts_next stmts i x e) ∙ one_for_each (counts_at stmts i) x.place x.says
+
+-- a PROC adds its procedure
+pub one_made : (stmts : List Placed) (links : List Link) (i owner : ℕ) (x : Placed) (name : List ℕ) (made : List TextProcedure) (p : TextProcedure)
+    → slice_get stmts i ≡ Some x → named x ≡ name ∷ [] → owner ≡ (counts_at stmts i).procedures + 1
+    → made ≡ procedures_from stmts links 1 (procedure_names (take i stmts)) → p ≡ record { name = name; body = procedure_of stmts links owner }
+    → made ++ p ∷ [] ≡ procedures_from stmts links 1 (procedure_names (take (i + 1) stmts))
+one_made stmts links i owner x name made p e is o m made_of =
+    let front = procedures_from stmts links 1 (procedure_names (take i stmts)) in
+    let number : owner ≡ 1 + (counts_at stmts i).procedures = omega arith in
+    ap (λ ps. ps ++ p ∷ []) m ∙ ap (λ q. front ++ q ∷ []) made_of
+    ∙ ap (λ n. front ++ procedures_from stmts links n (name ∷ [])) number
+    ∙ sym (ap (λ ns. front ++ procedures_from stmts links (1 + (counts_at stmts i).procedures) ns) is) ∙ sym (procedures_next stmts links i x e)
+
+-- another statement adds none
+pub none_made : (stmts : List Placed) (links : List Link) (i : ℕ) (x : Placed) → slice_get stmts i ≡ Some x → named x ≡ []
+    → procedures_from stmts links 1 (procedure_names (take i stmts)) ≡ procedures_from stmts links 1 (procedure_names (take (i + 1) stmts))
+none_made stmts links i x e is =
+    let front = procedures_from stmts links 1 (procedure_names (take i stmts)) in
+    sym (append-nil front) ∙ sym (ap (λ ns. front ++ procedures_from stmts links (1 + (counts_at stmts i).procedures) ns) is) ∙ sym (procedures_next stmts links i x e)

@@ -1,0 +1,4 @@
+use Rattle.il_built.proofs.laws.procedures_are_checked.Goals as goal
+
+pub returns : goal.returns
+returns c = ?
