@@ -2,6 +2,7 @@ pub mod Entered
 pub mod ProcedureCounts
 pub mod Gathered
 pub mod ProcedureNames
+pub mod ProcedureLimits
 pub mod BuiltSorts
 pub mod BuiltBounds
 pub mod BuiltFits

@@ -105,3 +105,8 @@ pub none_made : (stmts : List Placed) (links : List Link) (i : ℕ) (x : Placed)
 none_made stmts links i x e is =
     let front = procedures_from stmts links 1 (procedure_names (take i stmts)) in
     sym (append-nil front) ∙ sym (ap (λ ns. front ++ procedures_from stmts links (1 + (counts_at stmts i).procedures) ns) is) ∙ sym (procedures_next stmts links i x e)
+
+-- as many procedures as names
+pub procedures_counted : (stmts : List Placed) (links : List Link) (owner : ℕ) (names : List (List ℕ)) → length (procedures_from stmts links owner names) ≡ length names
+procedures_counted stmts links owner [] = refl
+procedures_counted stmts links owner (name ∷ names) = ap suc (procedures_counted stmts links (suc owner) names)

@@ -1,4 +1,5 @@
 ghost use Rattle.std.specs.Prelude.{◌≡◌, map};
+ghost use Rattle.std.specs.List.{list_any};
 ghost use Rattle.il_core.specs.Statement.{placed, statement_of};
 ghost use Rattle.il_blocks.specs.BlockLink.{AreLinks};
 ghost use Rattle.il_syntax.specs.Order.{IsInOrder};
@@ -40,11 +41,18 @@ fn wraps(form: &Form) -> bool
     }
 }
 
+/// Whether some statement has a WRAP.
+fn has_wrap(stmts: &[Stmt]) -> bool
+    ensures { result ≡ list_any (λ stmt. wraps (statement_of stmt.form)) stmts.now }
+{
+    stmts.iter().any(|stmt| wraps(&stmt.form))
+}
+
 /// 2 where a statement has a WRAP, else 1.
 fn profile_of(stmts: &[Stmt]) -> u8
     ensures { result ≡ profile_of (map placed stmts.now) }
 {
-    if stmts.iter().any(|stmt| wraps(&stmt.form)) { 2 } else { 1 }
+    if has_wrap(stmts) { 2 } else { 1 }
 }
 
 /// The checked text of statements in order with their links: its title, its profile, which is 2 where a statement has a WRAP and else
