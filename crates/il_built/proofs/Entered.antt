@@ -46,7 +46,7 @@ entry_is k scope at index (name ∷ names) spot e = elim (chosen (same_key k (sc
   | inr h ↦ entry_is k scope at (suc index) names spot h
 ]
 
-pub one_further : (c : Counts) (x : Statement) → (counts_behind c x).statements ≡ c.statements + 1
+one_further : (c : Counts) (x : Statement) → (counts_behind c x).statements ≡ c.statements + 1
 one_further c (title name) = refl
 one_further c (constant_is name value) = refl
 one_further c (range_type name a b) = refl

@@ -76,7 +76,7 @@ pub gathered_start : {A : Type 0} (give : ℕ → Statement → List A) (stmts :
 gathered_start give stmts owner from to s = nothing_before give stmts owner from s.before
 
 -- one statement of the procedure more
-pub gathered_more : {A : Type 0} (give : ℕ → Statement → List A) (stmts : List Placed) (owner from to i : ℕ) (x : Placed) → AreStatementsOf stmts owner from to
+gathered_more : {A : Type 0} (give : ℕ → Statement → List A) (stmts : List Placed) (owner from to i : ℕ) (x : Placed) → AreStatementsOf stmts owner from to
     → from ≤ i → i < to → slice_get stmts i ≡ Some x → gathered give stmts owner (i + 1) ≡ gathered give stmts owner i ++ give i x.says
 gathered_more give stmts owner from to i x s le lt e =
     let n : i + 1 ≡ suc i = omega arith in
@@ -92,7 +92,7 @@ gathered_end give stmts owner from to s =
     sym (nothing_behind give stmts owner to (length stmts - to) (λ i le lt. s.behind i le (omega arith))) ∙ ap (gathered give stmts owner) e
 
 -- where the names of a statement of the procedure are looked up
-pub setting_is : (stmts : List Placed) (table : Table) (owner from to i : ℕ) → table ≡ (front_of stmts).table → AreStatementsOf stmts owner from to
+setting_is : (stmts : List Placed) (table : Table) (owner from to i : ℕ) → table ≡ (front_of stmts).table → AreStatementsOf stmts owner from to
     → from ≤ i → i < to → setting table stmts owner i ≡ setting_at stmts i
 setting_is stmts table owner from to i e s le lt =
     ap (λ (t : Table). setting t stmts owner i) e ∙ ap (λ o. setting (front_of stmts).table stmts o i) (sym (s.inside i le lt))
@@ -110,8 +110,8 @@ gathered_step {A} say stmts table owner from to i x old new now t s le lt e o n 
     let within = s.within in
     let there = here stmts i x (omega arith) e in
     let said : now ≡ give i (statement_of x.form) =
-        n ∙ ap (λ (z : Setting). say z i (statement_of (get_or stmts i x).form)) (setting_is all table owner from to i t s le lt)
-        ∙ ap (λ (y : Stmt). give i (statement_of y.form)) (sym e) in
+    n ∙ ap (λ (z : Setting). say z i (statement_of (get_or stmts i x).form)) (setting_is all table owner from to i t s le lt)
+    ∙ ap (λ (y : Stmt). give i (statement_of y.form)) (sym e) in
     grown ∙ ap (λ xs. xs ++ now) o ∙ ap (λ xs. gathered give all owner i ++ xs) said ∙ sym (gathered_more give all owner from to i (placed x) s le lt there)
 
 -- what is given behind some statements stands behind what they give

@@ -1,5 +1,6 @@
 pub mod Entered
 pub mod ProcedureCounts
+pub mod CountsAtMost
 pub mod Gathered
 pub mod ProcedureNames
 pub mod ProcedureLimits

@@ -30,7 +30,7 @@ never_falls stmts d i (suc k) h =
     let x = get_or stmts (i + k) d in
     let next = counts_next stmts (i + k) x (slice_get-get_or stmts (i + k) d inside) in
     let more : (counts_at stmts (i + k)).procedures ≤ (counts_at stmts (suc (i + k))).procedures =
-        subst (λ (c : Counts). (counts_at stmts (i + k)).procedures ≤ c.procedures) (sym next) (no_fewer (counts_at stmts (i + k)) x.says) in
+    subst (λ (c : Counts). (counts_at stmts (i + k)).procedures ≤ c.procedures) (sym next) (no_fewer (counts_at stmts (i + k)) x.says) in
     let before : (counts_at stmts i).procedures ≤ (counts_at stmts (i + k)).procedures = never_falls stmts d i k (omega arith) in
     subst (λ n. (counts_at stmts i).procedures ≤ (counts_at stmts n).procedures) e (omega arith)
 

@@ -55,10 +55,10 @@ name_there stmts i x name e says =
     let front = procedure_names (take i stmts) in
     let rest = procedure_names (drop (suc i) stmts) in
     let here : named (get_or stmts i x) ≡ name ∷ [] =
-        ap named (get_or_from_slice_get stmts i x x e) ∙ ap (λ s. named (record { place = x.place; says = s })) says in
+    ap named (get_or_from_slice_get stmts i x x e) ∙ ap (λ s. named (record { place = x.place; says = s })) says in
     let parts : procedure_names stmts ≡ front ++ name ∷ rest =
-        sym (ap procedure_names (take-append-drop i stmts)) ∙ flat_map-append named (take i stmts) (drop i stmts)
-        ∙ ap (λ (xs : List Placed). front ++ procedure_names xs) (drop-cons stmts i x h) ∙ ap (λ ns. front ++ (ns ++ rest)) here in
+    sym (ap procedure_names (take-append-drop i stmts)) ∙ flat_map-append named (take i stmts) (drop i stmts)
+    ∙ ap (λ (xs : List Placed). front ++ procedure_names xs) (drop-cons stmts i x h) ∙ ap (λ ns. front ++ (ns ++ rest)) here in
     ap (λ ns. slice_get ns (counts_at stmts i).procedures) parts
     ∙ sym (ap (λ n. slice_get (front ++ name ∷ rest) n) (names_counted stmts x i (omega arith))) ∙ between front rest name
 

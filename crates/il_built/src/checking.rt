@@ -17,9 +17,12 @@ fn title_of(stmts: &[Stmt]) -> Name
     ensures { result ≡ title_of (map placed stmts.now) }
 {
     match stmts.first() {
-        Some(Stmt {
-            form: Form::Title(name), ..
-        }) => *name,
+        Some(
+            Stmt {
+                form: Form::Title(name),
+                ..
+            },
+        ) => *name,
         _ => unreachable!(),
     }
 }

@@ -14,6 +14,4 @@ mod spans;
 mod variables;
 
 pub use checking::check;
-pub use expressions::{build_expression, place_of_name};
 pub use laws::procedures_are_checked;
-pub use places::build_place;

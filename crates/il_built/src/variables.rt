@@ -63,7 +63,10 @@ fn copies_of(alloc: Global, variables: &[Place]) -> Result<Vec<Place>, NoMemory>
     let copies = variables
         .iter()
         .filter(|place| matches!(place.mode, Mode::InOut))
-        .map(|place| Place { old: true, ..*place })
+        .map(|place| Place {
+            old: true,
+            ..*place
+        })
         .collect(alloc)?;
     Ok(copies)
 }

@@ -14,7 +14,7 @@ pub new-requires : goal.new-requires
 new-requires c =
     let stmts = map placed c.args.stmts.now in
     let many : length c.in_ok-procs.procs ≡ length (procedure_names stmts) =
-        sym (length-map c.in_ok-procs.procs text_procedure) ∙ ap length c.in_ok-procs.ensures ∙ procedures_counted stmts c.args.links.now 1 (procedure_names stmts) in
+    sym (length-map c.in_ok-procs.procs text_procedure) ∙ ap length c.in_ok-procs.ensures ∙ procedures_counted stmts c.args.links.now 1 (procedure_names stmts) in
     let some = some_procedures stmts c.requires.order in
     let few = few_procedures stmts (subst (λ (o : Option Refusal). Answers stmts o) c.in_default.is c.in_ok-refusal.ensures) in
     let profile = profile_is stmts in

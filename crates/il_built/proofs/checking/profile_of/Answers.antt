@@ -1,5 +1,4 @@
-use Rattle.std.proofs.Common.{◌≡◌, ◌∙◌, sym, ap, if◌then◌else◌, Bool}
-use Rattle.std.specs.Prelude.{map}
+use Rattle.std.proofs.Common.{◌∙◌, sym, ap, if◌then◌else◌, Bool}
 use Rattle.il_core.specs.Statement.{Placed, placed}
 use Rattle.il_built.specs.CheckedText.{wraps}
 use Rattle.il_built.proofs.ProcedureLimits.{seen_any}

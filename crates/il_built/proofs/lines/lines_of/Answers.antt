@@ -1,9 +1,8 @@
-use Rattle.std.proofs.Common.{◌≡◌, ◌++◌, ◌∙◌, sym, ap, append-nil, arith, get_or, ℕ}
-use Rattle.std.specs.Prelude.{map, List, Option}
+use Rattle.std.proofs.Common.{◌≡◌, ◌∙◌, sym, ap, arith, get_or, ℕ}
+use Rattle.std.specs.Prelude.{map, List}
 use Rattle.std.specs.Option.{option_to_list, option_map}
 use Rattle.il_core.specs.Procedure.{Instruction, instruction_of}
 use Rattle.il_core.specs.Statement.{Statement, placed, statement_of}
-use Rattle.il_core.specs.declared.line.Line.{Line}
 use Rattle.il_types.specs.Names.{Setting, setting}
 use Rattle.il_built.specs.CheckedText.{post_of, target_at, instructions}
 use Rattle.il_built.specs.Holding.{setting_at}

@@ -1,4 +1,4 @@
-use Rattle.std.proofs.Common.{◌≡◌, ◌∙◌, sym, ap, refl, [], ◌∷◌, arith, ℕ}
+use Rattle.std.proofs.Common.{◌≡◌, ◌∙◌, sym, ap, refl, [], arith, ℕ}
 use Rattle.std.specs.Prelude.{map, List}
 use Rattle.std.proofs.lemmas.Result.{IfOk-weaker}
 use Rattle.il_core.specs.Expression.{Expression, expression_of}

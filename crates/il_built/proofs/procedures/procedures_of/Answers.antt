@@ -1,12 +1,12 @@
-use Rattle.std.proofs.Common.{◌≡◌, ℕ, suc, ◌+◌, ◌<◌, ◌++◌, ◌∙◌, sym, ap, subst, List, [], ◌∷◌, length, take, arith}
-use Rattle.std.specs.Prelude.{map, Some, slice_get}
-use Rattle.std.proofs.lemmas.List.{length-map, length-append, map-append, take_all}
+use Rattle.std.proofs.Common.{◌≡◌, ℕ, suc, ◌+◌, ◌∙◌, sym, ap, subst, List, [], ◌∷◌, length, arith}
+use Rattle.std.specs.Prelude.{map}
+use Rattle.std.proofs.lemmas.List.{length-append, map-append}
 use Rattle.il_core.specs.Checked.{IsChecked}
 use Rattle.il_core.specs.Statement.{Statement, placed}
 use Rattle.il_core.specs.Text.{text_procedure}
 use Rattle.il_types.specs.Names.{counts_at}
 use Rattle.il_types.proofs.Passing.{here}
-use Rattle.il_built.specs.CheckedText.{named, procedure_of, procedure_names, procedures_from}
+use Rattle.il_built.specs.CheckedText.{named, procedure_of}
 use Rattle.il_built.proofs.ProcedureNames.{name_there, counted_next, one_made, none_made}
 use Rattle.il_built.proofs.procedures.procedures_of.Goals as goal
 use Rattle.il_built.proofs.procedures.procedures_of.Goals.{in-Some+in_ok-proc+in_ok-push, in_default}

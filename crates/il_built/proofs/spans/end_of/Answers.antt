@@ -1,9 +1,8 @@
-use Rattle.std.proofs.Common.{◌≡◌, ◌≢◌, ◌+◌, ◌<◌, ◌≤◌, ◌∙◌, sym, ap, length, arith}
+use Rattle.std.proofs.Common.{◌≡◌, ◌∙◌, ap, length, arith}
 use Rattle.std.specs.Prelude.{map}
 use Rattle.std.proofs.lemmas.List.{length-map}
 use Rattle.il_core.specs.Statement.{placed}
 use Rattle.il_types.specs.declared.counts.Counts.{Counts}
-use Rattle.il_types.specs.Names.{counts_at}
 use Rattle.il_built.proofs.ProcedureCounts.{statements_are}
 use Rattle.il_built.proofs.spans.end_of.Goals as goal
 

@@ -1,4 +1,4 @@
-use Rattle.std.proofs.Common.{◌≡◌, ◌++◌, ◌∙◌, sym, ap, append-nil, arith, ℕ}
+use Rattle.std.proofs.Common.{◌≡◌, ◌∙◌, sym, ap, append-nil, arith, ℕ}
 use Rattle.std.specs.Prelude.{map, List}
 use Rattle.std.specs.Option.{option_to_list}
 use Rattle.il_core.specs.Statement.{Statement, placed}
