@@ -13,6 +13,7 @@ pub record AreAtMost (c : Counts) (n : ℕ) : Type 0 where
   pub variables : c.variables ≤ n
   pub copies : c.copies ≤ n
 
+-- a test counts as one at most
 one_at_most : (b : Bool) → one_if b ≤ 1
 one_at_most true = omega arith
 one_at_most false = omega arith
@@ -30,6 +31,7 @@ one_more c x n a =
     let k = a.copies in
     record { variables = omega arith; copies = omega arith }
 
+-- what the statements in front of one come to
 at_most_with : (stmts : List Placed) (d : Placed) (i : ℕ) → i ≤ length stmts → AreAtMost (counts_at stmts i) i
 at_most_with stmts d zero h = record { variables = omega arith; copies = omega arith }
 at_most_with stmts d (suc i) h =
@@ -38,6 +40,7 @@ at_most_with stmts d (suc i) h =
     subst (λ (c : Counts). AreAtMost c (suc i)) (sym (counts_next stmts i x (slice_get-get_or stmts i d inside)))
     (one_more (counts_at stmts i) x.says i (at_most_with stmts d i (omega arith)))
 
+-- in front of each statement of a text
 pub counts_at_most : (stmts : List Placed) (i : ℕ) → i < length stmts → AreAtMost (counts_at stmts i) i
 counts_at_most [] i h = absurd (omega arith)
 counts_at_most (x ∷ rest) i h = at_most_with (x ∷ rest) x i (omega arith)

@@ -17,6 +17,7 @@ use Rattle.il_built.specs.Span.{AreStatementsOf}
 abbrev pub gathered : {A : Type 0} → (ℕ → Statement → List A) → List Placed → ℕ → ℕ → List A
 gathered give stmts owner n = flat_map (of_procedure give stmts owner) (range_with_len 0 n)
 
+-- a range with one number more
 range_more : (a n : ℕ) → range_with_len a (suc n) ≡ range_with_len a n ++ (a + n) ∷ []
 range_more a zero = let e : a ≡ a + 0 = omega arith in ap (λ k. k ∷ []) e
 range_more a (suc n) = let e : a + 1 + n ≡ a + suc n = omega arith in
@@ -60,6 +61,7 @@ nothing_before give stmts owner (suc n) h =
     ∙ ap (λ xs. xs ++ of_procedure give stmts owner n) (nothing_before give stmts owner n (λ i lt. h i (omega arith)))
     ∙ others give stmts owner n (h n (omega arith))
 
+-- statements of other procedures add nothing
 nothing_behind : {A : Type 0} (give : ℕ → Statement → List A) (stmts : List Placed) (owner m k : ℕ)
     → ((i : ℕ) → m ≤ i → i < m + k → (counts_at stmts i).procedures ≢ owner) → gathered give stmts owner (m + k) ≡ gathered give stmts owner m
 nothing_behind give stmts owner m zero h = let e : m + 0 ≡ m = omega arith in ap (gathered give stmts owner) e
@@ -139,10 +141,11 @@ given_first {A} say stmts table owner from to i x a t s le lt e none n =
     let more = gathered_longer give all owner (i + 1) (to - (i + 1)) in
     (more.0, sym (gathered_end give all owner from to s) ∙ sym (ap (gathered give all owner) j) ∙ more.1 ∙ ap (λ xs. xs ++ more.0) (sym here))
 
--- a list with one element more, or with none
+-- a list with one element more
 pub one_more : {A B : Type 0} (f : A → B) (old new : List A) (a : A) (o : Option A) → new ≡ old ++ a ∷ [] → o ≡ Some a
     → map f new ≡ map f old ++ option_to_list (option_map f o)
 one_more f old new a o e is = ap (map f) e ∙ map-append f old (a ∷ []) ∙ sym (ap (λ p. map f old ++ option_to_list (option_map f p)) is)
 
+-- a list that stays as it is
 pub no_more : {A B : Type 0} (f : A → B) (old new : List A) (o : Option A) → new ≡ old → o ≡ None → map f new ≡ map f old ++ option_to_list (option_map f o)
 no_more f old new o e is = ap (map f) e ∙ sym (append-nil (map f old)) ∙ sym (ap (λ p. map f old ++ option_to_list (option_map f p)) is)

@@ -34,7 +34,8 @@ never_falls stmts d i (suc k) h =
     let before : (counts_at stmts i).procedures ≤ (counts_at stmts (i + k)).procedures = never_falls stmts d i k (omega arith) in
     subst (λ n. (counts_at stmts i).procedures ≤ (counts_at stmts n).procedures) e (omega arith)
 
-pub later : (stmts : List Placed) (d : Placed) (i j : ℕ) → i ≤ j → j ≤ length stmts → (counts_at stmts i).procedures ≤ (counts_at stmts j).procedures
+-- so for statements further on
+later : (stmts : List Placed) (d : Placed) (i j : ℕ) → i ≤ j → j ≤ length stmts → (counts_at stmts i).procedures ≤ (counts_at stmts j).procedures
 later stmts d i j h within =
     let e : i + (j - i) ≡ j = omega arith in
     subst (λ n. (counts_at stmts i).procedures ≤ (counts_at stmts n).procedures) e (never_falls stmts d i (j - i) (omega arith))

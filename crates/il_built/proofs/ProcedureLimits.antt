@@ -45,6 +45,7 @@ opens_one (x ∷ rest) e = by_part (opens_one rest) (part_of x.says) refl e
     by_part later part.Declaration is h = behind x rest (later h)
     by_part later p is h = absurd (cc)
 
+-- a text in order has a procedure
 pub some_procedures : (stmts : List Placed) → IsInOrder stmts → 1 ≤ length (procedure_names stmts)
 some_procedures [] e = absurd (cc)
 some_procedures (x ∷ rest) e = by_part (part_of x.says) e
@@ -62,6 +63,7 @@ few c e = by_test (nat_lt 64 c.procedures) refl _ e
     by_test true is rest h = absurd (cc)
     by_test false is rest h = grind arith
 
+-- in front of each statement there are few procedures
 few_to : (stmts : List Placed) (d : Placed) (i : ℕ) → Answers stmts None → i ≤ length stmts → (counts_at stmts i).procedures ≤ 64
 few_to stmts d zero a h = omega arith
 few_to stmts d (suc i) a h =
@@ -71,6 +73,7 @@ few_to stmts d (suc i) a h =
     let free = nowhere_at (broken rule.Limited (front_of stmts).table stmts) stmts i x a.1.1.1.1.1.1.0 there in
     subst (λ (c : Counts). c.procedures ≤ 64) (sym (counts_next stmts i x there)) (few (counts_behind (counts_at stmts i) x.says) free)
 
+-- a text without a fault has at most 64 procedures
 pub few_procedures : (stmts : List Placed) → Answers stmts None → length (procedure_names stmts) ≤ 64
 few_procedures [] a = omega arith
 few_procedures (x ∷ rest) a =
@@ -86,6 +89,7 @@ pub seen_any : {A B : Type 0} (p : B → Bool) (f : A → B) (xs : List A) → l
 seen_any p f [] = refl
 seen_any p f (x ∷ xs) = ap (λ b. p (f x) || b) (seen_any p f xs)
 
+-- a profile is 1 or 2
 pub profile_is : (stmts : List Placed) → (1 ≤ profile_of stmts) × (profile_of stmts ≤ 2)
 profile_is stmts = by_test (list_any (λ x. wraps x.says) stmts)
   where

@@ -1,5 +1,5 @@
--- The statements of the procedure numbered owner, in which so many PROCs have gone before: those behind its PROC, up to the next
--- PROC, with that one, or up to the end.
+-- The statements of a procedure are those in front of which as many PROCs stand as its number says: those behind its PROC, up to the
+-- next PROC, with that one, or up to the end of the text.
 use Rattle.std.specs.Prelude.{◌≡◌, ◌≢◌, ℕ, ◌+◌, ◌<◌, ◌≤◌, List, length, Some, slice_get}
 use Rattle.il_core.specs.Statement.{Placed, procedure}
 use Rattle.il_types.specs.Names.{counts_at}
