@@ -73,7 +73,7 @@ one_further c end_procedure = refl
 one_further c finish = refl
 
 -- the front with one statement more
-longer : (stmts : List Placed) (i : ℕ) (d : Placed) → i < length stmts → front_of (take (suc i) stmts) ≡ one_more (front_of (take i stmts)) (get_or stmts i d)
+pub longer : (stmts : List Placed) (i : ℕ) (d : Placed) → i < length stmts → front_of (take (suc i) stmts) ≡ one_more (front_of (take i stmts)) (get_or stmts i d)
 longer stmts i d h = let e : suc i ≡ i + 1 = omega arith in ap (λ n. front_of (take n stmts)) e ∙ fold_more one_more _ stmts i d h
 
 statements_are : (stmts : List Placed) (i : ℕ) (d : Placed) → i ≤ length stmts → (counts_at stmts i).statements ≡ i

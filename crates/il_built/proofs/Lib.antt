@@ -1,4 +1,9 @@
 pub mod Entered
+pub mod ProcedureCounts
+pub mod CountsAtMost
+pub mod Gathered
+pub mod ProcedureNames
+pub mod ProcedureLimits
 pub mod BuiltSorts
 pub mod BuiltBounds
 pub mod BuiltFits

@@ -73,22 +73,20 @@ fn built_recalled(
     at: usize,
     spot: (usize, usize),
     form: &Form,
-) -> Result<Expr, NoMemory>
+) -> Expr
     requires counted { AreCounted (map placed stmts.now) counts.now }
     requires within { spot.0 < length stmts.now }
     requires inside { at < length stmts.now }
-    ensures { IfOk result (λ e. expression_of e ≡ built_recalled (setting names.now (map placed stmts.now) owner at) spot (statement_of form.now)) }
+    ensures { expression_of result ≡ built_recalled (setting names.now (map placed stmts.now) owner at) spot (statement_of form.now) }
 {
     match form {
         Form::Variable(_, _, used) => {
             let variables = counts_before(counts, stmts, at).variables;
             let copies = counts_before(counts, stmts, spot.0).copies;
-            match variables.checked_add(copies) {
-                None => Err(NoMemory),
-                Some(place) => Ok(read(is_flag(names, stmts, owner, spot.0, used), place)),
-            }
+            let place = variables + copies;
+            read(is_flag(names, stmts, owner, spot.0, used), place)
         }
-        _ => Ok(Expr::Num(0)),
+        _ => Expr::Num(0),
     }
 }
 
@@ -100,13 +98,13 @@ fn built_copy(
     owner: usize,
     at: usize,
     name: &Name,
-) -> Result<Expr, NoMemory>
+) -> Expr
     requires counted { AreCounted (map placed stmts.now) counts.now }
     requires inside { at < length stmts.now }
-    ensures { IfOk result (λ e. expression_of e ≡ built_copy (setting names.now (map placed stmts.now) owner at) name.now) }
+    ensures { expression_of result ≡ built_copy (setting names.now (map placed stmts.now) owner at) name.now }
 {
     match declaration(names, stmts, owner, at, name) {
-        None => Ok(Expr::Num(0)),
+        None => Expr::Num(0),
         Some((spot, form)) => built_recalled(names, counts, stmts, owner, at, spot, form),
     }
 }
@@ -114,7 +112,7 @@ fn built_copy(
 /// The checked expression that a written one stands for, in statement `at` of procedure `owner` of the text `stmts`, with the
 /// declarations and the counts of the text. An error comes where memory runs out. The time is linear in the expression but for
 /// the look-ups by name.
-pub fn build_expression(
+pub(crate) fn build_expression(
     alloc: Global,
     names: &Names,
     counts: &[Counts],
@@ -130,7 +128,7 @@ pub fn build_expression(
     match raw {
         RawExpr::Num(value) => Ok(Expr::Num(i128::from(*value))),
         RawExpr::Ident(name) => Ok(built_name(names, counts, stmts, owner, at, name)),
-        RawExpr::Old(name) => built_copy(names, counts, stmts, owner, at, name),
+        RawExpr::Old(name) => Ok(built_copy(names, counts, stmts, owner, at, name)),
         RawExpr::Truth(value) => Ok(Expr::Truth(*value)),
         RawExpr::Neg(inner) => {
             let inner = build_expression(alloc, names, counts, stmts, owner, at, inner)?;
@@ -150,7 +148,7 @@ pub fn build_expression(
 
 /// The number of the place of the variable that a name stands for in statement `at` of procedure `owner`; 0 where the name has
 /// no declaration in force.
-pub fn place_of_name(
+pub(crate) fn place_of_name(
     names: &Names,
     counts: &[Counts],
     stmts: &[Stmt],

@@ -9,7 +9,7 @@ use il_types::{Counts, Names, is_flag, range_of_use};
 
 /// The place of the variable that statement `at` of procedure `owner` declares with this mode, name and type. The error comes
 /// only where an end of its range has more than 64 bits, which no text in memory has. The time is that of two look-ups by name.
-pub fn build_place(
+pub(crate) fn build_place(
     names: &Names,
     counts: &[Counts],
     stmts: &[Stmt],
