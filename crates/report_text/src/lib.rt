@@ -6,6 +6,7 @@
 #![tactic(auto)]
 
 mod lists;
+mod paths;
 mod pieces;
 mod refusal;
 mod report;
