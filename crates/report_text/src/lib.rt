@@ -6,12 +6,14 @@
 #![tactic(auto)]
 
 mod control;
+mod head;
 mod lists;
 mod paths;
 mod pieces;
 mod refusal;
 mod report;
 
+pub use head::{put_end, put_head, status_of};
 pub use refusal::{put_refusal, put_words};
 pub use report::{Analyses, ProcReport, Report, Selection};
 
