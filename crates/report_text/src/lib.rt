@@ -10,6 +10,7 @@ mod paths;
 mod pieces;
 mod refusal;
 mod report;
+mod row;
 
 pub use refusal::{put_refusal, put_words};
 pub use report::{Analyses, ProcReport, Report, Selection};
