@@ -11,6 +11,7 @@ mod pieces;
 mod refusal;
 mod report;
 mod row;
+mod usage;
 
 pub use refusal::{put_refusal, put_words};
 pub use report::{Analyses, ProcReport, Report, Selection};
