@@ -5,6 +5,7 @@
 //! the text, leaves what is settled as it was, and after a fault of the sink has written a prefix of the text.
 #![tactic(auto)]
 
+mod flows;
 mod lists;
 mod paths;
 mod pieces;
