@@ -12,6 +12,7 @@ mod pieces;
 mod refusal;
 mod report;
 mod row;
+mod sections;
 mod usage;
 
 pub use refusal::{put_refusal, put_words};
