@@ -7,11 +7,15 @@
 
 mod control;
 mod head;
+mod flows;
 mod lists;
 mod paths;
 mod pieces;
 mod refusal;
 mod report;
+mod row;
+mod sections;
+mod usage;
 
 pub use head::{put_end, put_head, status_of};
 pub use refusal::{put_refusal, put_words};
