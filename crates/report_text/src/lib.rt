@@ -6,9 +6,10 @@
 #![tactic(auto)]
 
 mod control;
-mod head;
 mod flows;
+mod head;
 mod lists;
+mod part;
 mod paths;
 mod pieces;
 mod refusal;
@@ -18,6 +19,7 @@ mod sections;
 mod usage;
 
 pub use head::{put_end, put_head, status_of};
+pub use part::put_part;
 pub use refusal::{put_refusal, put_words};
 pub use report::{Analyses, ProcReport, Report, Selection};
 
