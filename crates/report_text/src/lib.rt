@@ -12,6 +12,8 @@ mod pieces;
 mod refusal;
 mod report;
 mod row;
+#[cfg(test)]
+mod section_tests;
 mod sections;
 mod usage;
 
