@@ -5,7 +5,9 @@
 //! the text, leaves what is settled as it was, and after a fault of the sink has written a prefix of the text.
 #![tactic(auto)]
 
+mod control;
 mod flows;
+mod head;
 mod lists;
 mod paths;
 mod pieces;
@@ -17,6 +19,7 @@ mod section_tests;
 mod sections;
 mod usage;
 
+pub use head::{put_end, put_head, status_of};
 pub use refusal::{put_refusal, put_words};
 pub use report::{Analyses, ProcReport, Report, Selection};
 

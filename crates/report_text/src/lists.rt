@@ -6,7 +6,7 @@ ghost use Rattle.report_text.specs.Lists.{line_text, lines_text, names_text, old
 ghost use Rattle.report_text.specs.Pieces.{Writes};
 
 use crate::pieces::put;
-use il_core::Place;
+use il_core::{List, Place};
 use il_edge::{Failed, Sink};
 use itoa::Buffer;
 
@@ -51,6 +51,21 @@ pub(crate) fn put_lines<K: Sink>(lines: &[usize], sink: &mut K) -> Result<(), Fa
             put_other_lines(others, sink)
         }
     }
+}
+
+/// Writes lines with spaces between them, or a dash where there is none, behind the bytes `label`.
+pub(crate) fn put_labelled<K: Sink>(
+    label: &[u8],
+    lines: &List<usize>,
+    sink: &mut K,
+) -> Result<(), Failed>
+    ensures text { Writes (K.held sink.old) (K.held sink.new) result (label.now ++ lines_text lines.now) }
+    ensures told { SameTold (K.held sink.old) (K.held sink.new) }
+    ensures settled { K.settled sink.new ≡ K.settled sink.old }
+    ensures cause { HasCause (K.faults sink.old) (K.faults sink.new) result }
+{
+    put(sink, &[label])?;
+    put_lines(lines.as_slice(), sink)
 }
 
 fn mark_of(place: &Place) -> &[u8]
