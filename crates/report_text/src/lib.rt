@@ -15,6 +15,8 @@ mod pieces;
 mod refusal;
 mod report;
 mod row;
+#[cfg(test)]
+mod section_tests;
 mod sections;
 mod usage;
 
