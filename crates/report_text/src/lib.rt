@@ -1,22 +1,41 @@
-//! The text of what the suite answers. A report is a head, a part for each procedure and a line with the status;
-//! [`put_refusal`] writes the one line of a refused text, and [`put_words`] the one line that answers words that are not
-//! understood. Each text is a definition of its own, a list of bytes made of pieces: fixed words, names, and numbers by
-//! their decimal text. A call sends the pieces to a sink one after the other. It takes no memory, costs time linear in
-//! the text, leaves what is settled as it was, and after a fault of the sink has written a prefix of the text.
+//! The text of what the suite answers. The text of a report is a head, a part for each procedure and an end, which is a
+//! line with the status: [`put_head`], [`put_part`] and [`put_end`] write them, and [`status_of`] tells the status. A
+//! part has the sections that are selected: the control structure with the reduction by intervals, the use of variables,
+//! the flow of information, the paths, and the table of a straight procedure. [`put_refusal`] writes the one line of a
+//! refused text, and [`put_words`] the one line that answers words that are not understood. Each text is a definition of
+//! its own, a list of bytes made of pieces: fixed words, names, and numbers by their decimal text. A call sends the
+//! pieces to a sink one after the other. It takes no memory, costs time linear in the text, leaves what is settled as it
+//! was, and after a fault of the sink has written a prefix of the text.
 #![tactic(auto)]
 
+mod control;
+mod flows;
+mod head;
+mod lists;
+mod part;
+mod paths;
 mod pieces;
 mod refusal;
 mod report;
+mod row;
+#[cfg(test)]
+mod section_tests;
+mod sections;
+mod usage;
 
+pub use head::{put_end, put_head, status_of};
+pub use part::put_part;
 pub use refusal::{put_refusal, put_words};
 pub use report::{Analyses, ProcReport, Report, Selection};
 
 #[cfg(test)]
 mod tests {
     use super::*;
-    use il_core::{Code, Many, Name, Refusal};
+    use crate::control::put_control;
+    use control_flow::{Control, Entries, LoopInfo, Shape};
+    use il_core::{Code, List, Many, Name, Refusal};
     use il_edge::SureSink;
+    use interval_reduce::{Derivation, Interval};
     use std::test::Fail;
 
     fn refusal(code: Code, place: usize, name: Option<Name>) -> Refusal {
@@ -96,6 +115,106 @@ mod tests {
             put_refusal(refusal, &mut sink)?;
             assert_eq!(rt; sink.held(), *line);
         }
+        Ok(())
+    }
+
+    #[test]
+    fn writes_the_head_and_the_end(rt: HostRuntime) -> Result<(), Fail> {
+        let report = Report {
+            profile: 2,
+            title: Name::new(b"Brake").ok_or("no name")?,
+            procs: List::new(rt.alloc()),
+        };
+        let mut sink = SureSink::new(rt.alloc(), 100)?;
+        put_head(&report, &mut sink)?;
+        put_end(status_of(&report), &mut sink)?;
+        put_end(1, &mut sink)?;
+        assert_eq!(rt;
+            sink.held(),
+            b"MALPAS PROFILE 2\nTITLE Brake\nSTATUS 0\nSTATUS 1\n".as_slice()
+        );
+        Ok(())
+    }
+
+    #[test]
+    fn writes_the_control_of_a_loop(rt: HostRuntime) -> Result<(), Fail> {
+        let info = LoopInfo {
+            head: 3,
+            members: List::from_vec(vec![in rt.alloc(); 3, 4]?),
+            leading: List::from_vec(vec![in rt.alloc(); 4]?),
+        };
+        let first = Interval {
+            head: 0,
+            members: List::from_vec(vec![in rt.alloc(); 0, 1, 2]?),
+        };
+        let second = Interval {
+            head: 3,
+            members: List::from_vec(vec![in rt.alloc(); 3, 4, 5]?),
+        };
+        let whole = Interval {
+            head: 0,
+            members: List::from_vec(vec![in rt.alloc(); 0, 3]?),
+        };
+        let control = Control {
+            unreachable: List::from_vec(vec![in rt.alloc(); 6]?),
+            stuck: List::new(rt.alloc()),
+            loops: List::from_vec(vec![in rt.alloc(); info]?),
+            shape: Shape::Reducible,
+        };
+        let derivation = Derivation {
+            levels: List::from_vec(vec![in rt.alloc();
+                List::from_vec(vec![in rt.alloc(); first, second]?),
+                List::from_vec(vec![in rt.alloc(); whole]?),
+            ]?),
+            order: List::new(rt.alloc()),
+        };
+        let mut sink = SureSink::new(rt.alloc(), 200)?;
+        put_control(&control, &derivation, &mut sink)?;
+        assert_eq!(rt;
+            sink.held(),
+            b"CONTROL\nUNREACHABLE L6\nSTUCK -\nLOOP L3: L3 L4 LEADING L4\nLEVEL 0\nINTERVAL L0: L0 L1 L2\nINTERVAL L3: L3 L4 L5\nLEVEL 1\nINTERVAL L0: L0 L3\nSHAPE REDUCIBLE\n".as_slice()
+        );
+        Ok(())
+    }
+
+    #[test]
+    fn writes_the_part_of_an_irreducible_procedure(rt: HostRuntime) -> Result<(), Fail> {
+        let entries = Entries {
+            cycle: List::from_vec(vec![in rt.alloc(); 2, 3]?),
+            first_path: List::from_vec(vec![in rt.alloc(); 0, 1, 2]?),
+            second_path: List::from_vec(vec![in rt.alloc(); 0, 1, 3]?),
+        };
+        let part = ProcReport {
+            name: Name::new(b"Hold").ok_or("no name")?,
+            places: List::new(rt.alloc()),
+            lines: 6,
+            arcs: List::new(rt.alloc()),
+            control: Control {
+                unreachable: List::new(rt.alloc()),
+                stuck: List::from_vec(vec![in rt.alloc(); 4, 5]?),
+                loops: List::new(rt.alloc()),
+                shape: Shape::TwoEntries(entries),
+            },
+            derivation: Derivation {
+                levels: List::new(rt.alloc()),
+                order: List::new(rt.alloc()),
+            },
+            analyses: None,
+        };
+        let selection = Selection {
+            control: true,
+            usage: true,
+            flow: false,
+            paths: true,
+            semantic: true,
+            compliance: false,
+        };
+        let mut sink = SureSink::new(rt.alloc(), 300)?;
+        put_part(&part, selection, &mut sink)?;
+        assert_eq!(rt;
+            sink.held(),
+            b"PROCEDURE Hold LINES 6\nCONTROL\nUNREACHABLE -\nSTUCK L4 L5\nSHAPE TWO ENTRIES\nCYCLE L2 L3\nFIRST L0 L1 L2\nSECOND L0 L1 L3\nUSE\nNOT REPORTED IRREDUCIBLE\nPATHS\nNOT REPORTED IRREDUCIBLE\n".as_slice()
+        );
         Ok(())
     }
 }

@@ -1,0 +1,7 @@
+use Rattle.std.proofs.Common.{append_assoc}
+use Rattle.report_text.specs.Report.{head_text}
+use Rattle.report_text.proofs.head.put_head.Goals as goal
+
+pub returns-clause-text : goal.returns-clause-text
+unfolding head_text
+returns-clause-text g c = simp append_assoc (rw (c.as_bytes.ensures.value, c.as_bytes-2.ensures.value, c.format.ensures.text) at c.put.ensures.text)

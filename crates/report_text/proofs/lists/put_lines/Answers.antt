@@ -1,0 +1,13 @@
+use Rattle.report_text.specs.Lists.{lines_text}
+use Rattle.report_text.proofs.Written.{prefix_more, writes_behind, writes_failed}
+use Rattle.report_text.proofs.lists.put_lines.Goals as goal
+
+pub returns-in_err-put_line-in-Some-clause-text : goal.returns-in_err-put_line-in-Some-clause-text
+unfolding lines_text
+returns-in_err-put_line-in-Some-clause-text g c =
+    rw c.in-Some.ensures.cases.0 (writes_failed _ _ c.from_residual.result _ c.from_residual.ensures.0 (prefix_more _ _ _ _ c.in_err-put_line-in-Some.ensures.text))
+
+pub returns-in_ok-put_line-in-Some-clause-text : goal.returns-in_ok-put_line-in-Some-clause-text
+unfolding lines_text
+returns-in_ok-put_line-in-Some-clause-text g c =
+    rw c.in-Some.ensures.cases.0 (writes_behind _ _ _ c.put_other_lines.result _ _ c.in_ok-put_line-in-Some.ensures.text c.put_other_lines.ensures.text)

@@ -1,0 +1,11 @@
+use Rattle.report_text.specs.Sections.{row_text}
+use Rattle.report_text.proofs.Written.{prefix_more, writes_behind, writes_failed}
+use Rattle.report_text.proofs.row.put_row.Goals as goal
+
+pub returns-in_err-put-clause-text : goal.returns-in_err-put-clause-text
+unfolding row_text
+returns-in_err-put-clause-text g c = writes_failed _ _ _ _ c.from_residual.ensures.0 (prefix_more _ _ _ _ c.in_err-put.ensures.text)
+
+pub returns-clause-text : goal.returns-clause-text
+unfolding row_text
+returns-clause-text g c = writes_behind _ _ _ _ _ _ c.in_ok-put.ensures.text c.put_changes.ensures.text

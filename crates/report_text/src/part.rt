@@ -1,0 +1,132 @@
+ghost use Rattle.std.specs.Prelude.{◌≡◌};
+ghost use Rattle.il_edge.specs.Faults.{HasCause};
+ghost use Rattle.il_edge.specs.Known.{SameTold};
+ghost use Rattle.report_text.specs.Pieces.{Writes};
+ghost use Rattle.report_text.specs.Report.{chosen, flow_section, part_text, paths_section, semantic_section, title_text, usage_section};
+ghost use Rattle.report_text.specs.Sections.{control_text};
+
+use crate::control::put_control;
+use crate::pieces::put;
+use crate::report::{ProcReport, Selection};
+use crate::sections::{
+    put_flow_section, put_paths_section, put_semantic_section, put_usage_section,
+};
+use il_edge::{Failed, Sink};
+use itoa::Buffer;
+
+#[tactic(auto, unfolding(crate::specs::Report::title_text))]
+fn put_title<K: Sink>(part: &ProcReport, sink: &mut K) -> Result<(), Failed>
+    ensures text { Writes (K.held sink.old) (K.held sink.new) result (title_text part.now) }
+    ensures told { SameTold (K.held sink.old) (K.held sink.new) }
+    ensures settled { K.settled sink.new ≡ K.settled sink.old }
+    ensures cause { HasCause (K.faults sink.old) (K.faults sink.new) result }
+{
+    let mut lines = Buffer::new();
+    put(
+        sink,
+        &[
+            b"PROCEDURE ",
+            part.name.as_bytes(),
+            b" LINES ",
+            lines.format(part.lines).as_bytes(),
+            b"\n",
+        ],
+    )
+}
+
+fn put_chosen_control<K: Sink>(
+    selected: bool,
+    part: &ProcReport,
+    sink: &mut K,
+) -> Result<(), Failed>
+    ensures text { Writes (K.held sink.old) (K.held sink.new) result (chosen selected (control_text part.now.control part.now.derivation)) }
+    ensures told { SameTold (K.held sink.old) (K.held sink.new) }
+    ensures settled { K.settled sink.new ≡ K.settled sink.old }
+    ensures cause { HasCause (K.faults sink.old) (K.faults sink.new) result }
+{
+    if selected {
+        put_control(&part.control, &part.derivation, sink)
+    } else {
+        Ok(())
+    }
+}
+
+fn put_chosen_usage<K: Sink>(selected: bool, part: &ProcReport, sink: &mut K) -> Result<(), Failed>
+    ensures text { Writes (K.held sink.old) (K.held sink.new) result (chosen selected (usage_section part.now)) }
+    ensures told { SameTold (K.held sink.old) (K.held sink.new) }
+    ensures settled { K.settled sink.new ≡ K.settled sink.old }
+    ensures cause { HasCause (K.faults sink.old) (K.faults sink.new) result }
+{
+    if selected {
+        put_usage_section(part, sink)
+    } else {
+        Ok(())
+    }
+}
+
+fn put_chosen_flow<K: Sink>(selected: bool, part: &ProcReport, sink: &mut K) -> Result<(), Failed>
+    ensures text { Writes (K.held sink.old) (K.held sink.new) result (chosen selected (flow_section part.now)) }
+    ensures told { SameTold (K.held sink.old) (K.held sink.new) }
+    ensures settled { K.settled sink.new ≡ K.settled sink.old }
+    ensures cause { HasCause (K.faults sink.old) (K.faults sink.new) result }
+{
+    if selected {
+        put_flow_section(part, sink)
+    } else {
+        Ok(())
+    }
+}
+
+fn put_chosen_paths<K: Sink>(selected: bool, part: &ProcReport, sink: &mut K) -> Result<(), Failed>
+    ensures text { Writes (K.held sink.old) (K.held sink.new) result (chosen selected (paths_section part.now)) }
+    ensures told { SameTold (K.held sink.old) (K.held sink.new) }
+    ensures settled { K.settled sink.new ≡ K.settled sink.old }
+    ensures cause { HasCause (K.faults sink.old) (K.faults sink.new) result }
+{
+    if selected {
+        put_paths_section(part, sink)
+    } else {
+        Ok(())
+    }
+}
+
+fn put_chosen_semantic<K: Sink>(
+    selected: bool,
+    part: &ProcReport,
+    sink: &mut K,
+) -> Result<(), Failed>
+    ensures text { Writes (K.held sink.old) (K.held sink.new) result (chosen selected (semantic_section part.now)) }
+    ensures told { SameTold (K.held sink.old) (K.held sink.new) }
+    ensures settled { K.settled sink.new ≡ K.settled sink.old }
+    ensures cause { HasCause (K.faults sink.old) (K.faults sink.new) result }
+{
+    if selected {
+        put_semantic_section(part, sink)
+    } else {
+        Ok(())
+    }
+}
+
+/// Writes the part of a procedure: its line, and behind it the sections that are selected, in their order. For an
+/// irreducible procedure one line stands in place of each of the sections on use, flow and paths; the table is written
+/// for a straight procedure alone. `Failed` comes only where the sink's count of faults rose in this call, and then a
+/// prefix of the part was written. It takes no memory, leaves what is settled as it was, and costs time linear in the
+/// text.
+#[tactic(auto, unfolding(crate::specs::Report::part_text))]
+pub fn put_part<K: Sink>(
+    part: &ProcReport,
+    selection: Selection,
+    sink: &mut K,
+) -> Result<(), Failed>
+    ensures text { Writes (K.held sink.old) (K.held sink.new) result (part_text selection part.now) }
+    ensures told { SameTold (K.held sink.old) (K.held sink.new) }
+    ensures settled { K.settled sink.new ≡ K.settled sink.old }
+    ensures cause { HasCause (K.faults sink.old) (K.faults sink.new) result }
+{
+    put_title(part, sink)?;
+    put_chosen_control(selection.control, part, sink)?;
+    put_chosen_usage(selection.usage, part, sink)?;
+    put_chosen_flow(selection.flow, part, sink)?;
+    put_chosen_paths(selection.paths, part, sink)?;
+    put_chosen_semantic(selection.semantic, part, sink)
+}

@@ -1,0 +1,74 @@
+ghost use Rattle.std.specs.Prelude.{◌≡◌};
+ghost use Rattle.il_edge.specs.Faults.{HasCause};
+ghost use Rattle.il_edge.specs.Known.{SameTold};
+ghost use Rattle.report_text.specs.Pieces.{Writes};
+ghost use Rattle.report_text.specs.Report.{flow_section, paths_section, semantic_section, usage_section};
+
+use crate::flows::put_flows;
+use crate::paths::put_paths;
+use crate::pieces::put;
+use crate::report::ProcReport;
+use crate::row::put_row;
+use crate::usage::put_usage;
+use il_edge::{Failed, Sink};
+
+/// Writes the section on the use of variables, or that it is not given for an irreducible procedure. `Failed` comes only
+/// where the sink's count of faults rose in this call, and then a prefix of the section was written. It costs time
+/// linear in the text, and so do the others.
+#[tactic(auto, unfolding(crate::specs::Report::usage_section))]
+pub(crate) fn put_usage_section<K: Sink>(part: &ProcReport, sink: &mut K) -> Result<(), Failed>
+    ensures text { Writes (K.held sink.old) (K.held sink.new) result (usage_section part.now) }
+    ensures told { SameTold (K.held sink.old) (K.held sink.new) }
+    ensures settled { K.settled sink.new ≡ K.settled sink.old }
+    ensures cause { HasCause (K.faults sink.old) (K.faults sink.new) result }
+{
+    match &part.analyses {
+        None => put(sink, &[b"USE\nNOT REPORTED IRREDUCIBLE\n"]),
+        Some(analyses) => put_usage(part.places.as_slice(), analyses.usage.as_slice(), sink),
+    }
+}
+
+/// Writes the section on the flow of information, or that it is not given. It fails as the one on use does.
+#[tactic(auto, unfolding(crate::specs::Report::flow_section))]
+pub(crate) fn put_flow_section<K: Sink>(part: &ProcReport, sink: &mut K) -> Result<(), Failed>
+    ensures text { Writes (K.held sink.old) (K.held sink.new) result (flow_section part.now) }
+    ensures told { SameTold (K.held sink.old) (K.held sink.new) }
+    ensures settled { K.settled sink.new ≡ K.settled sink.old }
+    ensures cause { HasCause (K.faults sink.old) (K.faults sink.new) result }
+{
+    match &part.analyses {
+        None => put(sink, &[b"FLOW\nNOT REPORTED IRREDUCIBLE\n"]),
+        Some(analyses) => put_flows(part.places.as_slice(), analyses.flows.as_slice(), sink),
+    }
+}
+
+/// Writes the section on paths, or that it is not given. It fails as the one on use does.
+#[tactic(auto, unfolding(crate::specs::Report::paths_section))]
+pub(crate) fn put_paths_section<K: Sink>(part: &ProcReport, sink: &mut K) -> Result<(), Failed>
+    ensures text { Writes (K.held sink.old) (K.held sink.new) result (paths_section part.now) }
+    ensures told { SameTold (K.held sink.old) (K.held sink.new) }
+    ensures settled { K.settled sink.new ≡ K.settled sink.old }
+    ensures cause { HasCause (K.faults sink.old) (K.faults sink.new) result }
+{
+    match &part.analyses {
+        None => put(sink, &[b"PATHS\nNOT REPORTED IRREDUCIBLE\n"]),
+        Some(analyses) => put_paths(part.arcs.as_slice(), &analyses.paths, sink),
+    }
+}
+
+/// Writes the table of a straight procedure, and nothing for any other one. It fails as the section on use does.
+#[tactic(auto, unfolding(crate::specs::Report::semantic_section))]
+pub(crate) fn put_semantic_section<K: Sink>(part: &ProcReport, sink: &mut K) -> Result<(), Failed>
+    ensures text { Writes (K.held sink.old) (K.held sink.new) result (semantic_section part.now) }
+    ensures told { SameTold (K.held sink.old) (K.held sink.new) }
+    ensures settled { K.settled sink.new ≡ K.settled sink.old }
+    ensures cause { HasCause (K.faults sink.old) (K.faults sink.new) result }
+{
+    let Some(analyses) = &part.analyses else {
+        return Ok(());
+    };
+    match &analyses.row {
+        None => Ok(()),
+        Some(row) => put_row(part.places.as_slice(), row.as_slice(), sink),
+    }
+}
