@@ -1,5 +1,5 @@
 -- The static bounds of what is built are those of what is written, and they are small where those are there.
-use Rattle.std.proofs.Common.{◌≡◌, ℕ, ◌-◌, ◌≤◌, ◌^◌, ◌∙◌, sym, ap, subst, refl, Bool, true, false, ◌&&◌, List, arith, ℤ, pos, unsigned_abs, nat_le, if◌then◌else◌}
+use Rattle.std.proofs.Common.{◌≡◌, ℕ, ◌-◌, ◌≤◌, ◌∙◌, sym, ap, subst, refl, Bool, true, false, ◌&&◌, List, arith, pos, nat_le, if◌then◌else◌}
 use Rattle.std.specs.Prelude.{Option, Some, None, slice_get, unwrap_or}
 use Rattle.std.specs.Option.{option_and_then, option_map}
 use Rattle.il_core.specs.Bounds.{Bounds, AreSmall, IsNarrow, bounds_of, place_bounds, only, operator_bounds}
@@ -13,12 +13,11 @@ use Rattle.il_core.specs.Tree.{Tree, number, word, former, constant, minus, oppo
 use Rattle.il_core.specs.declared.line.Place.{Place}
 use Rattle.il_core.specs.declared.operator.BinOp.{BinOp}
 use Rattle.il_core.specs.declared.statement.Mode.{Mode}
-use Rattle.il_core.specs.declared.statement.TypeUse.{TypeUse}
 use Rattle.il_types.specs.declared.modes.Part.{Part}
-use Rattle.il_types.specs.Built.{read, is_flag, place_of, place_number, copy_number, built_value, built_name, built_recalled, built_copy, built}
+use Rattle.il_types.specs.Built.{read, is_flag, place_of, place_number, copy_number, built_value, built_recalled, built}
 use Rattle.il_types.specs.Modes.{mode_in, mode_of, keeps_modes}
 use Rattle.il_types.specs.Names.{Setting, Spot, declaration}
-use Rattle.il_types.specs.Narrow.{is_small, if_small, value_bounds, named_bounds, recalled_value, recalled_bounds, opposite_bounds, bounds_of_two, static_bounds}
+use Rattle.il_types.specs.Narrow.{is_small, if_small, value_bounds, recalled_value, opposite_bounds, bounds_of_two, static_bounds}
 use Rattle.il_built.proofs.BuiltSorts.{Reads, both_true, recalls_inout}
 use Rattle.il_built.proofs.Entered.{bound, mapped}
 

@@ -1,11 +1,10 @@
 -- What is built of statements that keep the rules is sound over the places of their procedure.
-use Rattle.std.proofs.Common.{◌≡◌, ◌≢◌, ℕ, ◌+◌, ◌∙◌, sym, ap, subst, refl, inl, inr, ◌⊎◌, Bool, true, false, ◌&&◌, ◌||◌, List}
+use Rattle.std.proofs.Common.{◌≡◌, ◌≢◌, ℕ, ◌∙◌, sym, ap, subst, refl, inl, inr, Bool, true, false, ◌||◌, List}
 use Rattle.std.specs.Prelude.{Option, Some, None, is_some, slice_get, unwrap_or}
 use Rattle.std.specs.Option.{option_and_then, option_map}
-use Rattle.il_core.specs.Bounds.{Bounds, IsNarrow}
+use Rattle.il_core.specs.Bounds.{IsNarrow}
 use Rattle.il_core.specs.Checked.{IsSoundCondition, IsSoundAssignment, Suits, old_copy}
 use Rattle.il_core.specs.Expression.{Expression}
-use Rattle.il_core.specs.Run.{is_inout}
 use Rattle.il_core.specs.Statement.{Statement, Placed}
 use Rattle.il_core.specs.Statement as st
 use Rattle.il_core.specs.Tree.{Tree}
@@ -14,7 +13,6 @@ use Rattle.il_core.specs.declared.refusal.Code.{Code}
 use Rattle.il_core.specs.declared.refusal.Code.TheVariants as code
 use Rattle.il_core.specs.declared.statement.Mode.{Mode}
 use Rattle.il_core.specs.declared.statement.Mode.TheVariants as mode
-use Rattle.il_core.specs.declared.statement.TypeUse.{TypeUse}
 use Rattle.il_types.specs.declared.kind.Kind.{Kind}
 use Rattle.il_types.specs.declared.kind.Kind.TheVariants.{Whole, Truth, Enumeration}
 use Rattle.il_types.specs.declared.modes.Part.{Part}
@@ -25,7 +23,7 @@ use Rattle.il_types.specs.Modes.{mode_in, mode_of, may_assign, keeps_modes, is_a
 use Rattle.il_types.specs.Names.{Setting, Spot, setting, counts_at, front_of, declaration}
 use Rattle.il_types.specs.Narrow.{static_bounds, is_narrow}
 use Rattle.il_types.specs.Rules.{unless, broken}
-use Rattle.il_types.specs.Typing.{variable_in, kind_of_variable, kind_of, is_whole, is_truth, are_whole, are_truth, are_of_one, may_hold, is_condition, is_typed}
+use Rattle.il_types.specs.Typing.{variable_in, kind_of_variable, kind_of, is_truth, are_whole, are_truth, are_of_one, may_hold, is_condition, is_typed}
 use Rattle.il_built.specs.Holding.{setting_at, AreOwned, Holds}
 use Rattle.il_built.proofs.BuiltBounds.{built_bounds}
 use Rattle.il_built.proofs.BuiltSorts.{Reads, IsOfKind, none_some, both_true, one_of, whole_is, truth_is, enumerations_are, built_sort}

@@ -1,5 +1,5 @@
 -- The place of a variable has a range where no statement breaks the rules of types and of ranges.
-use Rattle.std.proofs.Common.{◌≡◌, ℕ, ◌-◌, ◌∙◌, sym, ap, subst, refl, Bool, true, false, ◌&&◌, List, length, arith, nat_eq, ℤ, pos, ◌≤ℤ◌, if◌then◌else◌}
+use Rattle.std.proofs.Common.{◌≡◌, ℕ, ◌∙◌, sym, ap, subst, refl, Bool, true, false, ◌&&◌, List, arith, nat_eq, ℤ, pos, ◌≤ℤ◌, if◌then◌else◌}
 use Rattle.std.specs.Prelude.{Option, Some, None, is_some, int_le, slice_get, unwrap_or}
 use Rattle.std.specs.Option.{option_and_then}
 use Rattle.std.proofs.lemmas.Int.{ints}
@@ -15,14 +15,13 @@ use Rattle.il_types.specs.declared.kind.Kind.TheVariants.{Enumeration}
 use Rattle.il_types.specs.declared.range.Range.{Range}
 use Rattle.il_types.specs.declared.rules.Found.{Found}
 use Rattle.il_types.specs.declared.rules.Rule.TheVariants as rule
-use Rattle.il_types.specs.Built.{plain, bound_or_zero, range_between, range_in, range_of_use, place_of}
+use Rattle.il_types.specs.Built.{plain, range_between, range_in, place_of}
 use Rattle.il_types.specs.Names.{Setting, Spot, setting, front_of, said, in_force, declaration}
 use Rattle.il_types.specs.Ranges.{is_not_above, holds_some, has_range}
-use Rattle.il_types.specs.Rules.{broken, at_stmt, ComesNowhere}
+use Rattle.il_types.specs.Rules.{broken, ComesNowhere}
 use Rattle.il_types.specs.Typing.{bound_value, type_in, is_truth, are_bounds, is_typed}
 use Rattle.il_built.specs.Holding.{setting_at, Declares}
 use Rattle.il_built.proofs.BuiltFits.{kept_unless}
-use Rattle.il_built.proofs.BuiltSorts.{both_true}
 use Rattle.il_built.proofs.Entered.{bound, mapped}
 
 not_above : (a b : ℤ) → int_le a b ≡ true → a ≤ℤ b

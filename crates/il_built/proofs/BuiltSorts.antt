@@ -1,8 +1,7 @@
 -- The expressions that are built of well typed ones with allowed modes are well typed over the places, and their static bounds are the same.
-use Rattle.std.proofs.Common.{◌≡◌, ◌≢◌, ℕ, ◌+◌, ◌-◌, ◌≤◌, ◌^◌, ◌∙◌, sym, ap, subst, refl, inl, inr, ◌⊎◌, Bool, true, false, ◌&&◌, ◌||◌, List, arith, ℤ, pos, neg_ℤ, unsigned_abs, nat_le, nat_eq, if◌then◌else◌}
+use Rattle.std.proofs.Common.{◌≡◌, ℕ, ◌-◌, ◌∙◌, sym, ap, subst, refl, inl, inr, ◌⊎◌, Bool, true, false, ◌&&◌, ◌||◌, List, ℤ, pos, nat_eq, if◌then◌else◌}
 use Rattle.std.specs.Prelude.{Option, Some, None, slice_get, unwrap_or}
 use Rattle.std.specs.Option.{option_and_then, option_map}
-use Rattle.il_core.specs.Bounds.{Bounds, AreSmall, IsNarrow, bounds_of, place_bounds, only, operator_bounds}
 use Rattle.il_core.specs.Checked.{old_copy}
 use Rattle.il_core.specs.Expression.{Expression}
 use Rattle.il_core.specs.Expression as e
@@ -22,10 +21,10 @@ use Rattle.il_types.specs.declared.kind.Kind.{Kind}
 use Rattle.il_types.specs.declared.kind.Kind.TheVariants.{Whole, Truth, Enumeration}
 use Rattle.il_types.specs.declared.modes.Part.{Part}
 use Rattle.il_types.specs.declared.modes.Part.TheVariants as part
-use Rattle.il_types.specs.Built.{read, is_flag, place_of, place_number, copy_number, built_value, built_name, built_recalled, built_copy, built}
+use Rattle.il_types.specs.Built.{read, is_flag, place_of, place_number, copy_number, built_value, built_recalled, built}
 use Rattle.il_types.specs.Modes.{mode_in, mode_of, may_recall, keeps_modes}
 use Rattle.il_types.specs.Names.{Setting, Spot, declaration}
-use Rattle.il_types.specs.Typing.{kind_of_use, value_in, variable_in, kind_of_value, kind_of_variable, kind_of, kind_if, kind_of_two, is_whole, is_truth, is_enumeration, is_equality, are_of_one, are_whole, are_truth, are_comparable}
+use Rattle.il_types.specs.Typing.{value_in, variable_in, kind_of, kind_if, kind_of_two, is_whole, is_truth, is_enumeration, is_equality, are_of_one, are_whole, are_truth, are_comparable}
 
 -- the places give each variable of the setting its place, and each INOUT one its OLD copy
 pub record Reads (s : Setting) (places : List Place) : Type 0 where

@@ -1,12 +1,12 @@
 -- In front of a statement there are no more variables, and no more OLD copies, than statements.
-use Rattle.std.proofs.Common.{◌≡◌, ℕ, zero, suc, ◌+◌, ◌<◌, ◌≤◌, sym, subst, Bool, true, false, List, [], ◌∷◌, length, get_or, arith}
+use Rattle.std.proofs.Common.{ℕ, zero, suc, ◌<◌, ◌≤◌, sym, subst, Bool, true, false, List, [], ◌∷◌, length, get_or, arith}
 use Rattle.std.proofs.lemmas.Option.{slice_get-get_or}
 use Rattle.il_core.specs.Run.{is_inout}
 use Rattle.il_core.specs.Statement.{Statement, Placed, procedure, variable}
 use Rattle.il_types.specs.declared.counts.Counts.{Counts}
 use Rattle.il_types.specs.Counts.{one_if, counts_behind}
 use Rattle.il_types.specs.Names.{counts_at}
-use Rattle.il_built.proofs.ProcedureCounts.{counts_next}
+use Rattle.il_built.proofs.Given.{counts_next}
 
 -- counts with at most n variables and at most n OLD copies
 pub record AreAtMost (c : Counts) (n : ℕ) : Type 0 where

@@ -1,5 +1,5 @@
 -- What stands in the table of all declarations: each entry is made by the statement of its number, in the scope of that statement.
-use Rattle.std.proofs.Common.{◌≡◌, ◌≢◌, ℕ, zero, suc, ◌+◌, ◌<◌, ◌≤◌, ◌∙◌, sym, ap, subst, refl, inl, inr, ◌⊎◌, Bool, true, false, ◌&&◌, cond, List, [], ◌∷◌, ◌++◌, length, take, get_or, arith, nat_eq, if◌then◌else◌}
+use Rattle.std.proofs.Common.{◌≡◌, ℕ, zero, suc, ◌+◌, ◌<◌, ◌≤◌, ◌∙◌, sym, ap, subst, refl, inl, inr, ◌⊎◌, Bool, true, false, ◌&&◌, cond, List, [], ◌∷◌, ◌++◌, length, take, get_or, arith, nat_eq, if◌then◌else◌}
 use Rattle.std.specs.Prelude.{Option, Some, None, slice_get, nat_lt}
 use Rattle.std.specs.Option.{option_and_then, option_map, option_or}
 use Rattle.std.specs.Map.{lookup}
@@ -11,7 +11,7 @@ use Rattle.il_core.specs.declared.statement.Mode.{Mode}
 use Rattle.il_core.specs.declared.statement.TypeUse.{TypeUse}
 use Rattle.il_types.specs.declared.counts.Counts.{Counts}
 use Rattle.il_types.specs.Counts.{counts_behind}
-use Rattle.il_types.specs.Names.{Key, Spot, Table, Front, Setting, setting, same_key, scope_of, entries_from, entries, one_more, front_of, counts_at, earlier, of_procedure, in_force, said, declaration}
+use Rattle.il_types.specs.Names.{Key, Spot, Table, Front, setting, same_key, scope_of, entries_from, entries, one_more, front_of, counts_at, earlier, of_procedure, in_force, said, declaration}
 use Rattle.il_built.specs.Holding.{Declares, AreOwned}
 
 -- a choice that gives a value
@@ -73,7 +73,7 @@ one_further c end_procedure = refl
 one_further c finish = refl
 
 -- the front with one statement more
-pub longer : (stmts : List Placed) (i : ℕ) (d : Placed) → i < length stmts → front_of (take (suc i) stmts) ≡ one_more (front_of (take i stmts)) (get_or stmts i d)
+longer : (stmts : List Placed) (i : ℕ) (d : Placed) → i < length stmts → front_of (take (suc i) stmts) ≡ one_more (front_of (take i stmts)) (get_or stmts i d)
 longer stmts i d h = let e : suc i ≡ i + 1 = omega arith in ap (λ n. front_of (take n stmts)) e ∙ fold_more one_more _ stmts i d h
 
 statements_are : (stmts : List Placed) (i : ℕ) (d : Placed) → i ≤ length stmts → (counts_at stmts i).statements ≡ i

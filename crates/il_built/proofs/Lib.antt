@@ -1,9 +1,4 @@
 pub mod Entered
-pub mod ProcedureCounts
-pub mod CountsAtMost
-pub mod Gathered
-pub mod ProcedureNames
-pub mod ProcedureLimits
 pub mod BuiltSorts
 pub mod BuiltBounds
 pub mod BuiltFits
@@ -28,3 +23,8 @@ pub mod CheckedLinesJumps
 pub mod CheckedLinesReturns
 pub mod CheckedLinesFit
 pub mod CheckedLinesWhole
+pub mod ProcedureCounts
+pub mod CountsAtMost
+pub mod Gathered
+pub mod ProcedureNames
+pub mod Profile

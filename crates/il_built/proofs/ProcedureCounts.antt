@@ -1,25 +1,19 @@
 -- The number of procedures in front of a statement never falls from one statement to the next, and rises by one at each PROC.
-use Rattle.std.proofs.Common.{◌≡◌, ℕ, zero, suc, ◌+◌, ◌-◌, ◌<◌, ◌≤◌, ◌∙◌, sym, ap, subst, refl, List, length, get_or, arith}
-use Rattle.std.specs.Prelude.{◌≢◌, Some, slice_get}
-use Rattle.std.proofs.lemmas.Option.{get_or_from_slice_get, slice_get-get_or, slice_get_within}
+use Rattle.std.proofs.Common.{◌≡◌, ℕ, zero, suc, ◌+◌, ◌-◌, ◌<◌, ◌≤◌, ◌∙◌, sym, ap, subst, List, length, get_or, arith}
+use Rattle.std.specs.Prelude.{◌≢◌}
+use Rattle.std.proofs.lemmas.Option.{slice_get-get_or}
 use Rattle.il_core.specs.Statement.{Statement, Placed, procedure, variable}
 use Rattle.il_types.specs.declared.counts.Counts.{Counts}
 use Rattle.il_types.specs.Counts.{counts_behind}
-use Rattle.il_types.specs.Names.{Front, counts_at}
+use Rattle.il_types.specs.Names.{counts_at}
 use Rattle.il_built.specs.Span.{IsOpening, AreStatementsOf}
-use Rattle.il_built.proofs.Entered.{longer}
+use Rattle.il_built.proofs.Given.{counts_next}
 
 -- a statement more has no fewer procedures in front of it
 no_fewer : (c : Counts) (x : Statement) → c.procedures ≤ (counts_behind c x).procedures
 no_fewer c (procedure name) = omega arith
 no_fewer c (variable m name used) = omega arith
 no_fewer c x = omega arith
-
--- the counts of one statement more
-pub counts_next : (stmts : List Placed) (i : ℕ) (x : Placed) → slice_get stmts i ≡ Some x → counts_at stmts (suc i) ≡ counts_behind (counts_at stmts i) x.says
-counts_next stmts i x e =
-    ap (λ (f : Front). f.counts) (longer stmts i x (slice_get_within stmts i x e))
-    ∙ ap (λ (y : Placed). counts_behind (counts_at stmts i) y.says) (get_or_from_slice_get stmts i x x e)
 
 -- a later statement has no fewer procedures in front of it
 never_falls : (stmts : List Placed) (d : Placed) (i k : ℕ) → i + k ≤ length stmts → (counts_at stmts i).procedures ≤ (counts_at stmts (i + k)).procedures

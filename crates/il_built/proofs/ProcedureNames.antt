@@ -1,7 +1,6 @@
 -- The procedures of a text are numbered from 1 in the order of their PROCs.
-use Rattle.std.proofs.Common.{◌≡◌, ℕ, zero, suc, ◌+◌, ◌<◌, ◌≤◌, ◌∙◌, sym, ap, subst, refl, List, [], ◌∷◌, ◌++◌, length, take, drop, get_or, arith, append_assoc, append-nil, add-zero}
+use Rattle.std.proofs.Common.{◌≡◌, ℕ, zero, suc, ◌+◌, ◌<◌, ◌≤◌, ◌∙◌, sym, ap, refl, List, [], ◌∷◌, ◌++◌, length, take, drop, get_or, arith, append-nil, add-zero}
 use Rattle.std.specs.Prelude.{Some, slice_get}
-use Rattle.std.specs.List.{flat_map}
 use Rattle.std.proofs.lemmas.List.{take-append-drop, take_more, length-append}
 use Rattle.std.proofs.lemmas.List.Concat.{flat_map-append}
 use Rattle.std.proofs.lemmas.Option.{get_or_from_slice_get, slice_get-get_or, slice_get_within}
@@ -13,7 +12,7 @@ use Rattle.il_types.specs.declared.counts.Counts.{Counts}
 use Rattle.il_types.specs.Counts.{counts_behind}
 use Rattle.il_types.specs.Names.{counts_at}
 use Rattle.il_built.specs.CheckedText.{named, procedure_of, procedure_names, procedures_from}
-use Rattle.il_built.proofs.ProcedureCounts.{counts_next}
+use Rattle.il_built.proofs.Given.{counts_next}
 
 -- the names of one statement more
 names_next : (stmts : List Placed) (i : ℕ) (x : Placed) → slice_get stmts i ≡ Some x → procedure_names (take (i + 1) stmts) ≡ procedure_names (take i stmts) ++ named x
@@ -30,7 +29,7 @@ one_for_each c place (variable m name used) = sym (add-zero c.procedures)
 one_for_each c place x = sym (add-zero c.procedures)
 
 -- as many names stand in front of a statement as procedures
-pub names_counted : (stmts : List Placed) (d : Placed) (i : ℕ) → i ≤ length stmts → length (procedure_names (take i stmts)) ≡ (counts_at stmts i).procedures
+names_counted : (stmts : List Placed) (d : Placed) (i : ℕ) → i ≤ length stmts → length (procedure_names (take i stmts)) ≡ (counts_at stmts i).procedures
 names_counted stmts d zero h = refl
 names_counted stmts d (suc i) h =
     let inside : i < length stmts = omega arith in

@@ -1,13 +1,13 @@
 -- The checked text of statements without a fault: the name of its TITLE, its profile, which is 2 exactly where a statement has a WRAP, and
 -- for each PROC a procedure, whose places are its variables and then the OLD copies of the INOUT ones, and whose lines are its PRE, the
 -- statements of its body and its ENDPROC, which has the condition of its POST.
-use Rattle.std.specs.Prelude.{◌≡◌, ℕ, suc, ◌||◌, Bool, true, false, List, [], ◌∷◌, ◌++◌, map, filter, length, Option, Some, None, Result, Ok, Err, if◌then◌else◌, nat_eq, slice_get, slice_index_or}
+use Rattle.std.specs.Prelude.{◌≡◌, ℕ, suc, Bool, true, false, List, [], ◌∷◌, ◌++◌, map, filter, length, Some, None, Result, Ok, Err, if◌then◌else◌, nat_eq, slice_get, slice_index_or}
 use Rattle.std.specs.List.{flat_map, list_any, range_with_len}
 use Rattle.il_core.specs.Checked.{NamedText, old_copy, is_copied}
 use Rattle.il_core.specs.Expression.{Expression, truth}
 use Rattle.il_core.specs.Procedure.{Procedure, Instruction}
 use Rattle.il_core.specs.Procedure as line
-use Rattle.il_core.specs.Statement.{Statement, Placed, title, range_type, wrap_type, procedure, variable, pre, post, assign, if_true, otherwise, end_if, loop, end_loop, exit, exit_when, label, goto, skip, assert, return, end_procedure}
+use Rattle.il_core.specs.Statement.{Statement, Placed, title, wrap_type, procedure, variable, pre, post, assign, if_true, otherwise, end_if, loop, end_loop, exit, exit_when, label, goto, skip, assert, return, end_procedure}
 use Rattle.il_core.specs.Text.{TextProcedure, Text, text_of}
 use Rattle.il_core.specs.declared.line.Place.{Place}
 use Rattle.il_core.specs.declared.refusal.TextEnd.{TextEnd}

@@ -1,4 +1,4 @@
-use Rattle.std.proofs.Common.{◌≡◌, ◌≤◌, ℕ, ◌∙◌, sym, ap, subst, length, arith}
+use Rattle.std.proofs.Common.{◌≡◌, ◌≤◌, ◌∙◌, sym, ap, subst, length, arith}
 use Rattle.std.specs.Prelude.{Option, map}
 use Rattle.std.proofs.lemmas.List.{length-map}
 use Rattle.il_core.specs.Statement.{placed}
@@ -6,7 +6,8 @@ use Rattle.il_core.specs.Text.{text_procedure}
 use Rattle.il_core.specs.declared.refusal.Refusal.{Refusal}
 use Rattle.il_types.specs.Rules.{Answers}
 use Rattle.il_built.specs.CheckedText.{procedure_names}
-use Rattle.il_built.proofs.ProcedureLimits.{some_procedures, few_procedures, profile_is}
+use Rattle.il_built.proofs.CheckedLinesWhole.{some_procedures, few_procedures}
+use Rattle.il_built.proofs.Profile.{profile_is}
 use Rattle.il_built.proofs.ProcedureNames.{procedures_counted}
 use Rattle.il_built.proofs.checking.check.Goals as goal
 

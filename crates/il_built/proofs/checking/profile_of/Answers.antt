@@ -1,7 +1,7 @@
 use Rattle.std.proofs.Common.{◌∙◌, sym, ap, if◌then◌else◌, Bool}
 use Rattle.il_core.specs.Statement.{Placed, placed}
 use Rattle.il_built.specs.CheckedText.{wraps}
-use Rattle.il_built.proofs.ProcedureLimits.{seen_any}
+use Rattle.il_built.proofs.Profile.{seen_any}
 use Rattle.il_built.proofs.checking.profile_of.Goals as goal
 
 pub returns-then-has_wrap : goal.returns-then-has_wrap

@@ -6,7 +6,8 @@ use Rattle.il_core.specs.Statement.{Statement, placed, statement_of}
 use Rattle.il_types.specs.Names.{Setting, setting}
 use Rattle.il_built.specs.CheckedText.{post_of, target_at, instructions}
 use Rattle.il_built.specs.Holding.{setting_at}
-use Rattle.il_built.proofs.Gathered.{gathered, gathered_start, gathered_step, gathered_end, one_more, no_more}
+use Rattle.il_built.proofs.Given.{given_by}
+use Rattle.il_built.proofs.Gathered.{gathered_start, gathered_step, gathered_end, one_more, no_more}
 use Rattle.il_built.proofs.lines.lines_of.Goals as goal
 use Rattle.il_built.proofs.lines.lines_of.Goals.{in-Some+in_ok-push, in_default}
 
@@ -37,4 +38,4 @@ returns c =
     let s = c.requires.statements in
     let ordered = s.ordered in
     let e : c.loop-i.i ≡ c.args.span.to = omega arith in
-    c.loop-i.invariant ∙ ap (gathered give stmts c.args.span.owner) e ∙ gathered_end give stmts c.args.span.owner c.args.span.from c.args.span.to s
+    c.loop-i.invariant ∙ ap (given_by give stmts c.args.span.owner) e ∙ gathered_end give stmts c.args.span.owner c.args.span.from c.args.span.to s

@@ -9,7 +9,8 @@ use Rattle.il_types.specs.Built.{built}
 use Rattle.il_types.specs.Names.{Setting, setting}
 use Rattle.il_built.specs.CheckedText.{posted, first_condition}
 use Rattle.il_built.specs.Holding.{setting_at}
-use Rattle.il_built.proofs.Gathered.{gathered, gathered_start, gathered_step, gathered_end, given_first}
+use Rattle.il_built.proofs.Given.{given_by}
+use Rattle.il_built.proofs.Gathered.{gathered_start, gathered_step, gathered_end, given_first}
 use Rattle.il_built.proofs.lines.post_of.Goals as goal
 
 pub loop-i-init : goal.loop-i-init
@@ -43,4 +44,4 @@ returns c =
     let s = c.requires.statements in
     let ordered = s.ordered in
     let e : c.loop-i.i ≡ c.args.span.to = omega arith in
-    ap first_condition (sym c.loop-i.invariant ∙ ap (gathered give stmts c.args.span.owner) e ∙ gathered_end give stmts c.args.span.owner c.args.span.from c.args.span.to s)
+    ap first_condition (sym c.loop-i.invariant ∙ ap (given_by give stmts c.args.span.owner) e ∙ gathered_end give stmts c.args.span.owner c.args.span.from c.args.span.to s)

@@ -6,7 +6,8 @@ use Rattle.il_core.specs.declared.line.Place.{Place}
 use Rattle.il_types.specs.Names.{Setting}
 use Rattle.il_built.specs.CheckedText.{declared_place}
 use Rattle.il_built.specs.Holding.{setting_at}
-use Rattle.il_built.proofs.Gathered.{gathered, gathered_start, gathered_step, gathered_end}
+use Rattle.il_built.proofs.Given.{given_by}
+use Rattle.il_built.proofs.Gathered.{gathered_start, gathered_step, gathered_end}
 use Rattle.il_built.proofs.variables.variables_of.Goals as goal
 use Rattle.il_built.proofs.variables.variables_of.Goals.{in-Some+in_ok-push, in_default}
 
@@ -40,4 +41,4 @@ returns c =
     let s = c.requires.statements in
     let ordered = s.ordered in
     let e : c.loop-i.i ≡ c.args.span.to = omega arith in
-    c.loop-i.invariant ∙ ap (gathered give stmts c.args.span.owner) e ∙ gathered_end give stmts c.args.span.owner c.args.span.from c.args.span.to s
+    c.loop-i.invariant ∙ ap (given_by give stmts c.args.span.owner) e ∙ gathered_end give stmts c.args.span.owner c.args.span.from c.args.span.to s
