@@ -53,7 +53,7 @@ prefix_among f xs i d old mid new h whole part =
     let first : AppendsPrefix old new (flat_map f (take (i + 1) xs)) = rw (pieces_next f xs i d h) (prefix_behind old mid new _ _ whole part) in
     rw (pieces_split f xs (i + 1)) (prefix_more old new _ (flat_map f (drop (i + 1) xs)) first)
 
--- What is numbered from k on, up to the next one, is what is before it and that one.
+-- What is numbered from k on, up to the next one, is what is before it and that one: by the next place as a successor.
 numbered_suc : {X : Type 0} (f : ℕ → X → List ℕ) (k : ℕ) (xs : List X) (i : ℕ) (d : X) (n : ℕ) → n ≡ k + i → i < length xs
     → numbered f k (take (suc i) xs) ≡ numbered f k (take i xs) ++ f n (get_or xs i d)
 numbered_suc f k [] i d n e h = absurd (omega (arith, h))
@@ -62,6 +62,7 @@ numbered_suc f k (x ∷ xs) (suc i) d n e h =
     let same : n ≡ suc k + i = omega arith in let within : i < length xs = omega arith in
     ap (λ l. f k x ++ l) (numbered_suc f (suc k) xs i d n same within) ∙ sym (append_assoc (f k x) (numbered f (suc k) (take i xs)) (f n (get_or xs i d)))
 
+-- The same, by the next place as a sum.
 pub numbered_next : {X : Type 0} (f : ℕ → X → List ℕ) (k : ℕ) (xs : List X) (i : ℕ) (d : X) (n : ℕ) → n ≡ k + i → i < length xs
     → numbered f k (take (i + 1) xs) ≡ numbered f k (take i xs) ++ f n (get_or xs i d)
 numbered_next f k xs i d n e h = rw add-one (numbered_suc f k xs i d n e h)

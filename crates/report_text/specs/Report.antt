@@ -4,7 +4,6 @@ use Rattle.std.specs.List.{flat_map, list_all}
 use Rattle.control_flow.specs.declared.control.Shape.{Shape}
 use Rattle.control_flow.specs.declared.control.Shape.TheVariants.{Reducible, TwoEntries}
 use Rattle.il_core.specs.declared.line.Place.{Place}
-use Rattle.report_text.specs.declared.report.Analyses.{Analyses}
 use Rattle.report_text.specs.declared.report.ProcReport.{ProcReport}
 use Rattle.report_text.specs.declared.report.Report.{Report}
 use Rattle.report_text.specs.declared.report.Selection.{Selection}

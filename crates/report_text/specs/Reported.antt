@@ -8,7 +8,6 @@ use Rattle.control_flow.specs.declared.control.Shape.TheVariants.{Reducible, Two
 use Rattle.data_use.specs.Facts.{IsUseRow, variables_from, place_of}
 use Rattle.data_use.specs.declared.row.UseRow.{UseRow}
 use Rattle.flow_graph.specs.Graph.{graph_of}
-use Rattle.flow_graph.specs.declared.graph.FlowGraph.{FlowGraph}
 use Rattle.il_core.specs.Evaluation.{State, value_at}
 use Rattle.il_core.specs.LineGraph.{IsIn}
 use Rattle.il_core.specs.Procedure.{Procedure}

@@ -1,5 +1,5 @@
 -- The sections of a procedure's report, each with its heading.
-use Rattle.std.specs.Prelude.{ℕ, ◌==◌, Bool, List, [], ◌∷◌, ◌++◌, codes, decimal, if◌then◌else◌}
+use Rattle.std.specs.Prelude.{ℕ, ◌==◌, Bool, List, [], ◌++◌, codes, decimal, if◌then◌else◌}
 use Rattle.std.specs.List.{flat_map}
 use Rattle.control_flow.specs.declared.control.Control.{Control}
 use Rattle.control_flow.specs.declared.control.LoopInfo.{LoopInfo}

@@ -1,10 +1,9 @@
 -- A straight procedure has no lines but PRE TRUE, assignments of a place to a place that takes all its values, and ENDPROC with POST TRUE;
 -- its row gives for each place the number of the place whose first value it has at the end.
 use Rattle.std.specs.Prelude.{◌≡◌, ℕ, Bool, true, false, ◌&&◌, not, List, length, fold, slice_get, slice_index, slice_set, Option, Some, None, int_le, if◌then◌else◌}
-use Rattle.std.specs.Option.{option_map}
 use Rattle.std.specs.List.{range_with_len}
 use Rattle.il_core.specs.Evaluation.{State, value_at}
-use Rattle.il_core.specs.Expression.{Expression, variable, truth}
+use Rattle.il_core.specs.Expression.{variable, truth}
 use Rattle.il_core.specs.Procedure.{Procedure, Instruction, pre, assign, end_procedure}
 use Rattle.il_core.specs.Run.{IsInitial, Ends}
 use Rattle.il_core.specs.declared.line.Place.{Place}

@@ -38,6 +38,21 @@ mod tests {
     use interval_reduce::{Derivation, Interval};
     use std::test::Fail;
 
+    fn lines(rt: &HostRuntime, numbers: &[usize]) -> Result<List<usize>, Fail> {
+        let mut list = List::new(rt.alloc());
+        for number in numbers {
+            list.push(*number)?;
+        }
+        Ok(list)
+    }
+
+    fn interval(rt: &HostRuntime, head: usize, members: &[usize]) -> Result<Interval, Fail> {
+        Ok(Interval {
+            head,
+            members: lines(rt, members)?,
+        })
+    }
+
     fn refusal(code: Code, place: usize, name: Option<Name>) -> Refusal {
         Refusal { code, place, name }
     }
@@ -140,32 +155,22 @@ mod tests {
     fn writes_the_control_of_a_loop(rt: HostRuntime) -> Result<(), Fail> {
         let info = LoopInfo {
             head: 3,
-            members: List::from_vec(vec![in rt.alloc(); 3, 4]?),
-            leading: List::from_vec(vec![in rt.alloc(); 4]?),
+            members: lines(&rt, &[3, 4])?,
+            leading: lines(&rt, &[4])?,
         };
-        let first = Interval {
-            head: 0,
-            members: List::from_vec(vec![in rt.alloc(); 0, 1, 2]?),
-        };
-        let second = Interval {
-            head: 3,
-            members: List::from_vec(vec![in rt.alloc(); 3, 4, 5]?),
-        };
-        let whole = Interval {
-            head: 0,
-            members: List::from_vec(vec![in rt.alloc(); 0, 3]?),
-        };
+        let first = interval(&rt, 0, &[0, 1, 2])?;
+        let second = interval(&rt, 3, &[3, 4, 5])?;
+        let whole = interval(&rt, 0, &[0, 3])?;
         let control = Control {
-            unreachable: List::from_vec(vec![in rt.alloc(); 6]?),
+            unreachable: lines(&rt, &[6])?,
             stuck: List::new(rt.alloc()),
             loops: List::from_vec(vec![in rt.alloc(); info]?),
             shape: Shape::Reducible,
         };
+        let level = List::from_vec(vec![in rt.alloc(); first, second]?);
+        let last = List::from_vec(vec![in rt.alloc(); whole]?);
         let derivation = Derivation {
-            levels: List::from_vec(vec![in rt.alloc();
-                List::from_vec(vec![in rt.alloc(); first, second]?),
-                List::from_vec(vec![in rt.alloc(); whole]?),
-            ]?),
+            levels: List::from_vec(vec![in rt.alloc(); level, last]?),
             order: List::new(rt.alloc()),
         };
         let mut sink = SureSink::new(rt.alloc(), 200)?;
@@ -180,9 +185,9 @@ mod tests {
     #[test]
     fn writes_the_part_of_an_irreducible_procedure(rt: HostRuntime) -> Result<(), Fail> {
         let entries = Entries {
-            cycle: List::from_vec(vec![in rt.alloc(); 2, 3]?),
-            first_path: List::from_vec(vec![in rt.alloc(); 0, 1, 2]?),
-            second_path: List::from_vec(vec![in rt.alloc(); 0, 1, 3]?),
+            cycle: lines(&rt, &[2, 3])?,
+            first_path: lines(&rt, &[0, 1, 2])?,
+            second_path: lines(&rt, &[0, 1, 3])?,
         };
         let part = ProcReport {
             name: Name::new(b"Hold").ok_or("no name")?,
@@ -191,7 +196,7 @@ mod tests {
             arcs: List::new(rt.alloc()),
             control: Control {
                 unreachable: List::new(rt.alloc()),
-                stuck: List::from_vec(vec![in rt.alloc(); 4, 5]?),
+                stuck: lines(&rt, &[4, 5])?,
                 loops: List::new(rt.alloc()),
                 shape: Shape::TwoEntries(entries),
             },
