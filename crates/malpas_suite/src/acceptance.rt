@@ -55,3 +55,6 @@ pub fn one_answer()
     one_links();
     il_types::one_answer();
 }
+
+#[cfg(test)]
+mod tests;
