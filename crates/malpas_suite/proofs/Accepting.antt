@@ -1,4 +1,5 @@
--- From statements to tokens, and from tokens to the text.
+-- What the check of matched statements answers is what the statements answer, and no text has two answers: each step from the text to its checked
+-- text has one result or one refusal.
 use Rattle.std.proofs.Common.{◌≡◌, ℕ, ◌∙◌, sym, ap, subst, inl, inr, List, length, Option, Some, None, Result, Ok, Err}
 use Rattle.il_core.specs.Checked.{NamedText}
 use Rattle.il_core.specs.Statement.{Placed}
@@ -30,59 +31,66 @@ no_fault_or_refusal : (stmts : List Placed) (refusal : Refusal) → HasNoFault s
 no_fault_or_refusal stmts refusal h k = h k.number k.first.0
 
 module _ (lexed : OneReading) (parsed : OneParse) (linked : OneLinks) (ruled : rules.OneAnswer) where
-  -- a text has one list of tokens, and then no refusal of them
+  -- a text has one list of tokens
   tokens_once : (text : List ℕ) (x y : List Token) → IsReading text (Ok x) → IsReading text (Ok y) → x ≡ y
   tokens_once text x y h k =
       let same : ◌≡◌ {A = Result (List Token) Refusal} (Ok x) (Ok y) = lexed text (Ok x) (Ok y) h k in
       cc
 
+  -- a text that has tokens is not refused for them
   tokens_or_refusal : (text : List ℕ) (x : List Token) (refusal : Refusal) → IsReading text (Ok x) → IsReading text (Err refusal) → ⊥
   tokens_or_refusal text x refusal h k =
       let same : ◌≡◌ {A = Result (List Token) Refusal} (Ok x) (Err refusal) = lexed text (Ok x) (Err refusal) h k in
       cc
 
+  -- the bytes and tokens of a text have one refusal
   reading_once : (text : List ℕ) (a b : Refusal) → IsReading text (Err a) → IsReading text (Err b) → a ≡ b
   reading_once text a b h k =
       let same : ◌≡◌ {A = Result (List Token) Refusal} (Err a) (Err b) = lexed text (Err a) (Err b) h k in
       cc
 
-  -- tokens are one list of statements, or refused
+  -- tokens are one list of statements
   stmts_once : (n : ℕ) (tokens : List Token) (x y : List Placed) → Parses n tokens (Ok x) → Parses n tokens (Ok y) → x ≡ y
   stmts_once n tokens x y h k =
       let same : ◌≡◌ {A = Result (List Placed) Refusal} (Ok x) (Ok y) = parsed n tokens (Ok x) (Ok y) h k in
       cc
 
+  -- tokens that are statements are not refused for their forms and order
   stmts_or_refusal : (n : ℕ) (tokens : List Token) (x : List Placed) (refusal : Refusal) → Parses n tokens (Ok x) → Parses n tokens (Err refusal) → ⊥
   stmts_or_refusal n tokens x refusal h k =
       let same : ◌≡◌ {A = Result (List Placed) Refusal} (Ok x) (Err refusal) = parsed n tokens (Ok x) (Err refusal) h k in
       cc
 
+  -- the forms and the order of tokens have one refusal
   parse_once : (n : ℕ) (tokens : List Token) (a b : Refusal) → Parses n tokens (Err a) → Parses n tokens (Err b) → a ≡ b
   parse_once n tokens a b h k =
       let same : ◌≡◌ {A = Result (List Placed) Refusal} (Err a) (Err b) = parsed n tokens (Err a) (Err b) h k in
       cc
 
-  -- statements have one list of links, or one first fault of blocks and labels
+  -- statements have one list of links
   links_once : (stmts : List Placed) (x y : List Link) → AreLinks stmts x → AreLinks stmts y → x ≡ y
   links_once stmts x y h k =
       let same : ◌≡◌ {A = Result (List Link) Refusal} (Ok x) (Ok y) = linked stmts (Ok x) (Ok y) h k in
       cc
 
+  -- the blocks and labels of statements have one refusal
   match_once : (stmts : List Placed) (a b : Refusal) → IsRefusedAt stmts a → IsRefusedAt stmts b → a ≡ b
   match_once stmts a b h k =
       let same : ◌≡◌ {A = Result (List Link) Refusal} (Err a) (Err b) = linked stmts (Err a) (Err b) h k in
       cc
 
-  -- statements have one checked text, or one refusal
+  -- statements have one checked text
   text_once : (stmts : List Placed) (x y : Text) → AreAccepted stmts x → AreAccepted stmts y → x ≡ y
   text_once stmts x y a b = a.text_is ∙ ap (checked_text stmts) (links_once stmts a.links b.links a.linked b.linked) ∙ sym b.text_is
 
+  -- statements that have a checked text are not refused
   text_or_refusal : (stmts : List Placed) (t : Text) (refusal : Refusal) → AreAccepted stmts t → RefusesStatements stmts refusal → ⊥
   text_or_refusal stmts t refusal a (inl h) = no_fault_or_refusal stmts refusal a.linked.matched h
   text_or_refusal stmts t refusal a (inr h) =
       let same : ◌≡◌ {A = Option Refusal} None (Some refusal) = ruled stmts None (Some refusal) a.kept h.1 in
       cc
 
+  -- statements have one refusal
   statements_once : (stmts : List Placed) (a b : Refusal) → RefusesStatements stmts a → RefusesStatements stmts b → a ≡ b
   statements_once stmts a b (inl h) (inl k) = match_once stmts a b h k
   statements_once stmts a b (inl h) (inr k) = absurd (no_fault_or_refusal stmts a k.0 h)
@@ -91,16 +99,18 @@ module _ (lexed : OneReading) (parsed : OneParse) (linked : OneLinks) (ruled : r
       let same : ◌≡◌ {A = Option Refusal} (Some a) (Some b) = ruled stmts (Some a) (Some b) h.1 k.1 in
       cc
 
-  -- tokens have one checked text, or one refusal
+  -- tokens have one checked text
   said_once : (n : ℕ) (tokens : List Token) (x y : Text) → Say n tokens x → Say n tokens y → x ≡ y
   said_once n tokens x y a b =
       text_once b.stmts x y (subst (λ l. AreAccepted l x) (stmts_once n tokens a.stmts b.stmts a.parsed b.parsed) a.accepted) b.accepted
 
+  -- tokens that have a checked text are not refused
   said_or_refusal : (n : ℕ) (tokens : List Token) (t : Text) (refusal : Refusal) → Say n tokens t → RefusesTokens n tokens refusal → ⊥
   said_or_refusal n tokens t refusal a (inl h) = stmts_or_refusal n tokens a.stmts refusal a.parsed h
   said_or_refusal n tokens t refusal a (inr h) =
       text_or_refusal h.0 t refusal (subst (λ l. AreAccepted l t) (stmts_once n tokens a.stmts h.0 a.parsed h.1) a.accepted) h.2
 
+  -- tokens have one refusal
   refusal_of_tokens_once : (n : ℕ) (tokens : List Token) (a b : Refusal) → RefusesTokens n tokens a → RefusesTokens n tokens b → a ≡ b
   refusal_of_tokens_once n tokens a b (inl h) (inl k) = parse_once n tokens a b h k
   refusal_of_tokens_once n tokens a b (inl h) (inr k) = absurd (stmts_or_refusal n tokens k.0 a k.1 h)
@@ -108,16 +118,18 @@ module _ (lexed : OneReading) (parsed : OneParse) (linked : OneLinks) (ruled : r
   refusal_of_tokens_once n tokens a b (inr h) (inr k) =
       statements_once k.0 a b (subst (λ l. RefusesStatements l a) (stmts_once n tokens h.0 k.0 h.1 k.1) h.2) k.2
 
-  -- a text has one checked text, or one refusal
+  -- a text has one checked text
   accepted_once : (text : List ℕ) (x y : Text) → IsAccepted text x → IsAccepted text y → x ≡ y
   accepted_once text x y a b =
       said_once (length text) b.tokens x y (subst (λ l. Say (length text) l x) (tokens_once text a.tokens b.tokens a.read b.read) a.say) b.say
 
+  -- a text that has a checked text is not refused
   accepted_or_refusal : (text : List ℕ) (t : Text) (refusal : Refusal) → IsAccepted text t → IsFirstRefusal text refusal → ⊥
   accepted_or_refusal text t refusal a (inl h) = tokens_or_refusal text a.tokens refusal a.read h
   accepted_or_refusal text t refusal a (inr h) =
       said_or_refusal (length text) h.0 t refusal (subst (λ l. Say (length text) l t) (tokens_once text a.tokens h.0 a.read h.1) a.say) h.2
 
+  -- a text has one refusal
   refusal_once : (text : List ℕ) (a b : Refusal) → IsFirstRefusal text a → IsFirstRefusal text b → a ≡ b
   refusal_once text a b (inl h) (inl k) = reading_once text a b h k
   refusal_once text a b (inl h) (inr k) = absurd (tokens_or_refusal text k.0 a k.1 h)

@@ -21,7 +21,7 @@ fn outcome(alloc: Global, text: &[u8]) -> Result<Result<(usize, usize, usize), R
     }
 }
 
-/// So many pieces that differ in a number.
+/// So many pieces, each with its number between two parts.
 fn numbered(alloc: Global, count: usize, before: &str, after: &str) -> Result<String, AllocError> {
     let mut pieces = String::new(alloc);
     for number in 0..count {
@@ -31,7 +31,7 @@ fn numbered(alloc: Global, count: usize, before: &str, after: &str) -> Result<St
     Ok(pieces)
 }
 
-/// The refusal with a code and a name, where one is told, at a place.
+/// The refusal with a code at a place; it tells a name unless that is empty.
 fn refusal_at(place: usize, code: Code, name: &str) -> Refusal {
     Refusal {
         code,
@@ -40,7 +40,7 @@ fn refusal_at(place: usize, code: Code, name: &str) -> Refusal {
     }
 }
 
-/// Whether a text is answered so; a refusal is to stand at the place.
+/// Whether a text is answered as wanted; a wanted refusal has its code and its name, and stands at the place.
 fn is_answered(
     alloc: Global,
     text: &[u8],
