@@ -1,3 +1,4 @@
 pub mod Copying
 pub mod Stepping
 pub mod Rows
+pub mod Accepting

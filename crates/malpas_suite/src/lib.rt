@@ -7,5 +7,5 @@ mod analysis;
 mod between;
 mod straight;
 
-pub use acceptance::accept;
+pub use acceptance::{accept, one_answer};
 pub use analysis::analyse_proc;
