@@ -1,9 +1,11 @@
 //! The program: it reads a text from standard input and writes its report or its refusal to standard output. The top
 //! call does all of it over any source and sink, so that its contract can name the bytes; `main` hands it the standard
-//! ones and ends with its status. The cost is that of reading, accepting and writing, each linear in its bytes.
+//! ones and ends with its status. Reading and writing are linear in their bytes; the rest of the cost is that of
+//! accepting the text and of analysing its procedures, one after the other.
 #![tactic(auto)]
 
 mod answer;
+mod reporting;
 #[cfg(test)]
 mod tests;
 mod top;

@@ -1,0 +1,4 @@
+pub mod Told
+pub mod Sent
+pub mod Ended
+pub mod Outcomes

@@ -1,0 +1,11 @@
+use Rattle.std.proofs.Common.{◌≡◌, []}
+use Rattle.il_core.specs.Text.{text_of}
+use Rattle.malpas.proofs.Sent.{AreSoFar}
+use Rattle.malpas.proofs.reporting.write_parts.Given as goal
+
+abbrev pub invariant-loop-proc : goal.invariant-loop-proc
+invariant-loop-proc g l = record {
+  so_far : AreSoFar (g.K.Sink.held l.fn.sink) (g.K.Sink.held l.sink) (g.K.Sink.settled l.sink) (g.K.Sink.faults l.fn.sink) (g.K.Sink.faults l.sink)
+      (text_of l.text) l.proc-index l.report;
+  untouched : l.report.procs ≡ [] → l.sink ≡ l.fn.sink;
+}

@@ -1,0 +1,156 @@
+ghost use Rattle.std.specs.Prelude.{◌≡◌, ◌<◌, ◌≤◌, [], None, length, IfSome};
+ghost use Rattle.il_core.specs.Text.{text_of};
+ghost use Rattle.il_edge.specs.Faults.{HasCause};
+ghost use Rattle.il_edge.specs.Known.{SameTold};
+ghost use Rattle.report_text.specs.Pieces.{Writes};
+ghost use Rattle.report_text.specs.Report.{end_text, status_of};
+ghost use Rattle.malpas.specs.Answer.{Sends};
+ghost use Rattle.malpas.specs.Parts.{first_text, next_text, SendsNext, SendsParts, Reports, IsTold};
+
+use crate::answer::settle;
+use crate::top::Outcome;
+use il_core::{CheckedText, List, NoMemory};
+use il_edge::{Failed, Sink};
+use malpas_suite::analyse_proc;
+use report_text::{Report, Selection, put_end, put_head, put_part, status_of};
+use std::alloc::Global;
+
+/// Each section is written.
+const ALL: Selection = Selection {
+    control: true,
+    usage: true,
+    flow: true,
+    paths: true,
+    semantic: true,
+    compliance: true,
+};
+
+/// Why the parts of a text's procedures are not all written.
+#[derive(Clone, Copy, Debug)]
+enum PartsEnd {
+    /// The sink failed.
+    Failed,
+    /// Memory ran out.
+    NoMemory,
+}
+
+/// Writes the head of a report that has one procedure, and nothing otherwise.
+fn put_first<K: Sink>(report: &Report, sink: &mut K) -> Result<(), Failed>
+    ensures text { Writes (K.held sink.old) (K.held sink.new) result (first_text report.now) }
+    ensures told { SameTold (K.held sink.old) (K.held sink.new) }
+    ensures settled { K.settled sink.new ≡ K.settled sink.old }
+    ensures cause { HasCause (K.faults sink.old) (K.faults sink.new) result }
+{
+    if report.procs.len() == 1 {
+        put_head(report, sink)
+    } else {
+        Ok(())
+    }
+}
+
+/// Writes the part of the last procedure of a report, with the head before it where it is the first.
+fn put_next<K: Sink>(report: &Report, sink: &mut K) -> Result<(), Failed>
+    requires { 0 < length report.now.procs }
+    ensures text { Writes (K.held sink.old) (K.held sink.new) result (next_text report.now) }
+    ensures told { SameTold (K.held sink.old) (K.held sink.new) }
+    ensures settled { K.settled sink.new ≡ K.settled sink.old }
+    ensures cause { HasCause (K.faults sink.old) (K.faults sink.new) result }
+{
+    let Some(part) = report.procs.as_slice().last() else {
+        unreachable!()
+    };
+    match put_first(report, sink) {
+        Ok(()) => put_part(part, ALL, sink),
+        Err(failed) => Err(failed),
+    }
+}
+
+/// Writes the part of the last procedure of a report, with the head before it where it is the first, and settles it.
+fn write_next<K: Sink>(report: &Report, sink: &mut K) -> Result<(), Failed>
+    requires { 0 < length report.now.procs }
+    ensures sent { SendsNext (K.held sink.old) (K.held sink.new) (K.settled sink.old) (K.settled sink.new)
+        (K.faults sink.old) (K.faults sink.new) report.now result }
+    ensures told { SameTold (K.held sink.old) (K.held sink.new) }
+    ensures later { K.faults sink.old ≤ K.faults sink.new }
+{
+    match put_next(report, sink) {
+        Ok(()) => sink.flush(),
+        Err(failed) => Err(failed),
+    }
+}
+
+/// Makes the report of each procedure of a text, adds it to `report`, which has none, and writes its part, before it
+/// makes the next.
+fn write_parts<K: Sink>(
+    alloc: Global,
+    text: &CheckedText,
+    report: &mut Report,
+    sink: &mut K,
+) -> Result<(), PartsEnd>
+    requires title { report.old.title ≡ text.now.title }
+    requires profile { report.old.profile ≡ text.now.profile }
+    requires none { report.old.procs ≡ [] }
+    ensures told_of { IsTold (text_of text.now) report.new }
+    ensures sent { SendsParts (K.held sink.old) (K.held sink.new) (K.settled sink.new)
+        (K.faults sink.old) (K.faults sink.new) (length text.now.procs) report.new result }
+    ensures untouched { report.new.procs ≡ [] → sink.new ≡ sink.old }
+    ensures told { SameTold (K.held sink.old) (K.held sink.new) }
+    ensures later { K.faults sink.old ≤ K.faults sink.new }
+{
+    for proc in text.procs().as_slice() {
+        let part = match analyse_proc(alloc, proc) {
+            Ok(part) => part,
+            Err(NoMemory) => return Err(PartsEnd::NoMemory),
+        };
+        match report.procs.push(part) {
+            Ok(()) => {}
+            Err(NoMemory) => return Err(PartsEnd::NoMemory),
+        }
+        match write_next(report, sink) {
+            Ok(()) => {}
+            Err(Failed) => return Err(PartsEnd::Failed),
+        }
+    }
+    Ok(())
+}
+
+/// Writes the line with the status of a report, settles it and answers the status.
+fn write_end<K: Sink>(report: &Report, sink: &mut K) -> u8
+    ensures sent { Sends (K.held sink.old) (K.held sink.new) (K.settled sink.old) (K.settled sink.new)
+        (K.faults sink.old) (K.faults sink.new) (end_text (status_of report.now)) (status_of report.now) result }
+    ensures low { status_of report.now ≤ 1 }
+    ensures told { SameTold (K.held sink.old) (K.held sink.new) }
+    ensures later { K.faults sink.old ≤ K.faults sink.new }
+{
+    let status = status_of(report);
+    let put = put_end(status, sink);
+    settle(sink, put, status)
+}
+
+/// Makes and writes the report of a text, procedure by procedure.
+pub(crate) fn report_on<K: Sink>(alloc: Global, text: &CheckedText, sink: &mut K) -> Outcome
+    ensures refusal { result.refusal ≡ None }
+    ensures told_of { IfSome result.report (λ report. IsTold (text_of text.now) report × (0 < length report.procs)) }
+    ensures written { Reports (K.held sink.old) (K.held sink.new) (K.settled sink.new)
+        (K.faults sink.old) (K.faults sink.new) (text_of text.now) result.report result.status }
+    ensures untouched { result.report ≡ None → sink.new ≡ sink.old }
+    ensures told { SameTold (K.held sink.old) (K.held sink.new) }
+    ensures later { K.faults sink.old ≤ K.faults sink.new }
+{
+    let mut report = Report {
+        profile: text.profile(),
+        title: text.title(),
+        procs: List::new(alloc),
+    };
+    let status = match write_parts(alloc, text, &mut report, sink) {
+        Ok(()) => write_end(&report, sink),
+        Err(PartsEnd::Failed) => 4,
+        Err(PartsEnd::NoMemory) => 5,
+    };
+    let reported = !report.procs.is_empty();
+    Outcome {
+        status,
+        refusal: None,
+        report: reported.then_some(report),
+    }
+}
