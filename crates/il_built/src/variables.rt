@@ -21,16 +21,15 @@ fn declared_place(
     owner: usize,
     at: usize,
     form: &Form,
-) -> Result<Option<Place>, NoMemory>
+) -> Option<Place>
     requires { AreCounted (map placed stmts.now) counts.now }
-    ensures { IfOk result (λ p. option_to_list p ≡ declared_place (setting names.now (map placed stmts.now) owner at) (statement_of form.now)) }
+    ensures { option_to_list result ≡ declared_place (setting names.now (map placed stmts.now) owner at) (statement_of form.now) }
 {
     match form {
-        Form::Variable(mode, name, used) => {
-            let place = build_place(names, counts, stmts, owner, at, *mode, *name, used)?;
-            Ok(Some(place))
-        }
-        _ => Ok(None),
+        Form::Variable(mode, name, used) => Some(build_place(
+            names, counts, stmts, owner, at, *mode, *name, used,
+        )),
+        _ => None,
     }
 }
 
@@ -49,7 +48,7 @@ fn variables_of(
 {
     let mut places = Vec::new(alloc);
     for i in span.from..span.to {
-        if let Some(place) = declared_place(names, counts, stmts, span.owner, i, &stmts[i].form)? {
+        if let Some(place) = declared_place(names, counts, stmts, span.owner, i, &stmts[i].form) {
             places.push(place)?;
         }
     }

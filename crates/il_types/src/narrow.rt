@@ -27,7 +27,7 @@ fn variable_bounds(
         Bounds::only(0)
     } else {
         let range = range_of_use(names, counts, stmts, owner, at, used);
-        Bounds::new(range.least, range.greatest)
+        Bounds::new(i128::from(range.least), i128::from(range.greatest))
     }
 }
 

@@ -14,15 +14,15 @@ use il_core::{Bound, Form, Stmt, TypeUse};
 #[derive(Clone, Copy, Debug, PartialEq, Eq)]
 pub struct Range {
     /// The least value.
-    pub least: i128,
+    pub least: i64,
     /// The greatest value.
-    pub greatest: i128,
+    pub greatest: i64,
     /// Whether an assignment wraps.
     pub wrap: bool,
 }
 
 /// The range of a type that is no wrapping one.
-fn plain(least: i128, greatest: i128) -> Range
+fn plain(least: i64, greatest: i64) -> Range
     ensures { result ≡ plain least greatest }
 {
     Range {
@@ -41,13 +41,10 @@ pub fn counts_before(counts: &[Counts], _stmts: &[Stmt], at: usize) -> Counts
     counts[at]
 }
 
-fn bound_or_zero(names: &Names, stmts: &[Stmt], owner: usize, at: usize, bound: &Bound) -> i128
+fn bound_or_zero(names: &Names, stmts: &[Stmt], owner: usize, at: usize, bound: &Bound) -> i64
     ensures { result ≡ bound_or_zero (setting names.now (map placed stmts.now) owner at) bound.now }
 {
-    match bound_value(names, stmts, owner, at, bound) {
-        None => 0,
-        Some(value) => i128::from(value),
-    }
+    bound_value(names, stmts, owner, at, bound).unwrap_or(0)
 }
 
 fn range_between(
@@ -90,8 +87,9 @@ fn range_in(
             names, stmts, owner, at, true, least, greatest,
         )),
         Form::EnumType(_, values) => {
-            let greatest = values.len().saturating_sub(1);
-            Some(plain(0, greatest as i128))
+            // the length of a slice is below 2^63, so its last index is an i64
+            let greatest = values.as_slice().len().saturating_sub(1);
+            Some(plain(0, greatest as i64))
         }
         _ => None,
     }

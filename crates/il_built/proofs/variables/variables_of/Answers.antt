@@ -21,9 +21,9 @@ pub loop-i-preserved : goal.loop-i-preserved
 loop-i-preserved c =
     let say : Setting → ℕ → Statement → List Place = λ s i x. declared_place s x in
     gathered_step say c.args.stmts.now c.args.names.now c.args.span.owner c.args.span.from c.args.span.to c.loop-i.i c.index-stmts-i.result
-    c.loop-i.places.items c.match-branch-2.places.items (option_to_list c.in_ok-place.field-0)
-    c.requires.names c.requires.statements c.loop-i.auto.i c.loop-i-test.true c.index-stmts-i.is c.loop-i.invariant c.in_ok-place.ensures
-    (elim c.match-branch-2.branch [
+    c.loop-i.places.items c.match-declared_place.places.items (option_to_list c.declared_place.result)
+    c.requires.names c.requires.statements c.loop-i.auto.i c.loop-i-test.true c.index-stmts-i.is c.loop-i.invariant c.declared_place.ensures
+    (elim c.match-declared_place.branch [
       | in-Some+in_ok-push w ↦
           let is = w.places-is in
           let more = w.in_ok-push.ensures.items in
