@@ -30,22 +30,24 @@ told_at (q ∷ ps) (x ∷ rs) told zero p r at_p at_r =
     subst (λ (y : ProcReport). TellsOfRuns p.body y.analyses) same_r (subst (λ (y : TextProcedure). TellsOfRuns y.body x.analyses) same_p told.0)
 told_at (q ∷ ps) (x ∷ rs) told (suc k) p r at_p at_r = told_at ps rs told.1 k p r at_p at_r
 
--- Of the equal values, and of the row.
+-- What is told of runs has the equal values of each variable,
 values_told : (p : Procedure) (analyses : Option Analyses) → TellsOfRuns p analyses → IfSome analyses (λ a. (row : FlowRow) → IsIn a.flows row → HasEqualValues p row)
 values_told p None told = tt
 values_told p (Some a) told = told.0
 
+-- and the row of a straight procedure.
 table_told : (p : Procedure) (analyses : Option Analyses) → TellsOfRuns p analyses → IfSome analyses (λ a. IfSome a.row (RowHolds p))
 table_told p None told = tt
 table_told p (Some a) told = told.1
 
--- So it is for the text of a source, for each procedure that is reported.
+-- The runs of each procedure of the text that is reported have equal values,
 pub equal_values : (old : Option (List ℕ)) (t : Text) (report : Option Report) → HasText old t → IfSome report (λ r. IsTold t r × (0 < length r.procs))
     → IfSome report (λ r. OfText old (HaveEqualValues r))
 equal_values old t None text told = tt
 equal_values old t (Some report) text told =
     (t, text, λ k p r at_p at_r. values_told p.body r.analyses (told_at t.procs report.procs told.0.1 k p r at_p at_r))
 
+-- and those of a straight one end by its row.
 pub tables : (old : Option (List ℕ)) (t : Text) (report : Option Report) → HasText old t → IfSome report (λ r. IsTold t r × (0 < length r.procs))
     → IfSome report (λ r. OfText old (HaveTables r))
 tables old t None text told = tt

@@ -29,10 +29,11 @@ pub text_with_some : (report : Report) (ps : List ProcReport) → 0 < length ps 
 text_with_some report [] some = absurd (omega arith)
 text_with_some report (p ∷ ps) some = refl
 
--- The procedures before the last one, and the last one.
+-- The procedures before the one that is added last are those before.
 before_pushed : (ps : List ProcReport) (p : ProcReport) → before_last (ps ++ p ∷ []) ≡ ps
 before_pushed ps p = take_at ps (p ∷ []) (length (ps ++ p ∷ []) - 1) (omega (arith, length_push ps p))
 
+-- The last procedure alone is then the one that is added.
 last_pushed : (ps : List ProcReport) (p : ProcReport) → last_alone (ps ++ p ∷ []) ≡ p ∷ []
 last_pushed ps p = drop_at ps (p ∷ []) (length (ps ++ p ∷ []) - 1) (omega (arith, length_push ps p))
 
@@ -51,10 +52,11 @@ next_is report items p same last =
     let at : slice_get report.procs (length report.procs - 1) ≡ Some p = rw (← same) last in
     ap (λ l. first_text report ++ parts_text all l) (last_is report.procs p at) ∙ ap (λ l. first_text report ++ l) (append-nil (part_text all p))
 
--- The head of a report stands before its first part alone.
+-- The head of a report stands before its first part,
 first_of : (head : List ℕ) (n : ℕ) → n ≡ 1 → (if n == 1 then head else []) ≡ head
 first_of head n one = rw one refl
 
+-- and before no later one.
 later_of : (head : List ℕ) (n : ℕ) → 1 < n → (if n == 1 then head else []) ≡ []
 later_of head n more = grind (arith, nat_tests)
 
@@ -87,7 +89,7 @@ pub settled_behind : (ps : List ProcReport) (held : Option (List ℕ)) (settled 
 settled_behind [] held settled settles = tt
 settled_behind (p ∷ ps) held settled settles = settles
 
--- Less is settled too.
+-- Where a text with more behind it is settled, the text is.
 settled_less : (old : Option (List ℕ)) (settled : Option ℕ) (text rest : List ℕ) → SettledPast old settled (text ++ rest) → SettledPast old settled text
 settled_less None settled text rest past = tt
 settled_less (Some held) None text rest past = past

@@ -20,7 +20,7 @@ none_tells : (ps : List TextProcedure) → TellOfRuns ps []
 none_tells [] = tt
 none_tells (p ∷ ps) = tt
 
--- So it is with what they tell of runs.
+-- What the reports of the first procedures tell of runs, and that of the next one, is what they tell together.
 tells_more : (ps : List TextProcedure) (rs : List ProcReport) (p : TextProcedure) (r : ProcReport) → get_or ps (length rs) p ≡ p
     → TellOfRuns ps rs → TellsOfRuns p.body r.analyses → TellOfRuns ps (rs ++ r ∷ [])
 tells_more [] rs p r at all next = tt
