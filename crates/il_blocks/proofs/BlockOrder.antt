@@ -25,13 +25,13 @@ is_procedure kind.Procedure = true
 is_procedure _ = false
 
 -- below other blocks that are open stands that of the procedure
-record InProcedure (ks : List Kind) : Type 0 where
+pub record InProcedure (ks : List Kind) : Type 0 where
   above : List Kind
   is : ks ≡ above ++ kind.Procedure ∷ []
   others : list_any is_procedure above ≡ false
 
 -- inside a procedure that one alone is open, outside none
-abbrev Balanced : Bool → List Kind → Type 0
+abbrev pub Balanced : Bool → List Kind → Type 0
 Balanced false ks = ks ≡ []
 Balanced true ks = InProcedure ks
 
@@ -85,28 +85,28 @@ last_two : (k : Kind) (o : Option (List Kind)) (js : List Kind) → option_and_t
 last_two k None js e = absurd (not_some js e)
 last_two k (Some is) js e = let f : k ∷ is ≡ js = cc in (is, refl, f)
 
--- past a statement that may stand there
-step : (s : Statement) (b : Bool) (ks js : List Kind) → may_stand s b ≡ true → Balanced b ks → scan (brackets_of s) ks ≡ Some js → Balanced (turned s b) js
-step (procedure _) true ks js m p e = absurd (let z : false ≡ true = m in cc)
-step (procedure _) false ks js m p e =
+-- past a statement that may stand there the open blocks stay balanced
+pub stays_balanced : (s : Statement) (b : Bool) (ks js : List Kind) → may_stand s b ≡ true → Balanced b ks → scan (brackets_of s) ks ≡ Some js → Balanced (turned s b) js
+stays_balanced (procedure _) true ks js m p e = absurd (let z : false ≡ true = m in cc)
+stays_balanced (procedure _) false ks js m p e =
     let f : kind.Procedure ∷ ks ≡ js = cc in
     record { above = []; is = sym f ∙ ap (λ (xs : List Kind). kind.Procedure ∷ xs) p; others = refl }
-step end_procedure true ks js m p e = procedure_closes ks js p (last_one (scan_one (closing closer.ByEndProc) ks) js e)
-step (if_true _) true ks js m p e = let f : kind.Then ∷ ks ≡ js = cc in one_opens kind.Then ks js refl p f
-step loop true ks js m p e = let f : kind.Round ∷ ks ≡ js = cc in one_opens kind.Round ks js refl p f
-step end_if true ks js m p e = one_closes closer.ByEndIf ks js refl p (last_one (scan_one (closing closer.ByEndIf) ks) js e)
-step end_loop true ks js m p e = one_closes closer.ByEndLoop ks js refl p (last_one (scan_one (closing closer.ByEndLoop) ks) js e)
-step otherwise true ks js m p e =
+stays_balanced end_procedure true ks js m p e = procedure_closes ks js p (last_one (scan_one (closing closer.ByEndProc) ks) js e)
+stays_balanced (if_true _) true ks js m p e = let f : kind.Then ∷ ks ≡ js = cc in one_opens kind.Then ks js refl p f
+stays_balanced loop true ks js m p e = let f : kind.Round ∷ ks ≡ js = cc in one_opens kind.Round ks js refl p f
+stays_balanced end_if true ks js m p e = one_closes closer.ByEndIf ks js refl p (last_one (scan_one (closing closer.ByEndIf) ks) js e)
+stays_balanced end_loop true ks js m p e = one_closes closer.ByEndLoop ks js refl p (last_one (scan_one (closing closer.ByEndLoop) ks) js e)
+stays_balanced otherwise true ks js m p e =
     let two = last_two kind.Otherwise (scan_one (closing closer.ByElse) ks) js e in
     one_opens kind.Otherwise two.0 js refl (one_closes closer.ByElse ks two.0 refl p two.1) two.2
-step end_procedure false ks js m p e = absurd (let z : false ≡ true = m in cc)
-step (if_true _) false ks js m p e = absurd (let z : false ≡ true = m in cc)
-step loop false ks js m p e = absurd (let z : false ≡ true = m in cc)
-step end_if false ks js m p e = absurd (let z : false ≡ true = m in cc)
-step end_loop false ks js m p e = absurd (let z : false ≡ true = m in cc)
-step otherwise false ks js m p e = absurd (let z : false ≡ true = m in cc)
-step _ true ks js m p e = let f : ks ≡ js = cc in subst InProcedure f p
-step _ false ks js m p e = let f : ks ≡ js = cc in sym f ∙ p
+stays_balanced end_procedure false ks js m p e = absurd (let z : false ≡ true = m in cc)
+stays_balanced (if_true _) false ks js m p e = absurd (let z : false ≡ true = m in cc)
+stays_balanced loop false ks js m p e = absurd (let z : false ≡ true = m in cc)
+stays_balanced end_if false ks js m p e = absurd (let z : false ≡ true = m in cc)
+stays_balanced end_loop false ks js m p e = absurd (let z : false ≡ true = m in cc)
+stays_balanced otherwise false ks js m p e = absurd (let z : false ≡ true = m in cc)
+stays_balanced _ true ks js m p e = let f : ks ≡ js = cc in subst InProcedure f p
+stays_balanced _ false ks js m p e = let f : ks ≡ js = cc in sym f ∙ p
 
 -- past statements that take turns
 steps : (ss : List Placed) (b : Bool) (ks js : List Kind) → TakeTurns b ss → Balanced b ks → scan (brackets ss) ks ≡ Some js → js ≡ []
@@ -119,7 +119,7 @@ steps (s ∷ ss) b ks js t p e =
     by : (u : Option (List Kind)) → scan (brackets_of s.says) ks ≡ u → option_and_then (scan (brackets ss)) u ≡ Some js
         → ((is : List Kind) → Balanced (turned s.says b) is → scan (brackets ss) is ≡ Some js → js ≡ []) → js ≡ []
     by None g e claim = absurd (not_some js e)
-    by (Some is) g e claim = claim is (step s.says b ks is t.0 p g) e
+    by (Some is) g e claim = claim is (stays_balanced s.says b ks is t.0 p g) e
 
 none_open : (es : List OpenBlock) → kinds es ≡ [] → es ≡ []
 none_open [] e = refl

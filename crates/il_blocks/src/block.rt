@@ -151,7 +151,7 @@ pub(crate) fn pass(blocks: &mut Vec<OpenBlock>, at: usize, form: &Form) -> Resul
 
 /// The number of the first statement that closes no fitting innermost block, or that is an EXIT in no LOOP. It takes time
 /// linear in the statements.
-pub fn first_unmatched(alloc: Global, stmts: &[Stmt]) -> Result<Option<usize>, NoMemory>
+pub(crate) fn first_unmatched(alloc: Global, stmts: &[Stmt]) -> Result<Option<usize>, NoMemory>
     ensures { IfOk result (λ first. IsFirst (IsUnmatched (map placed stmts.now)) first) }
 {
     let mut blocks = Vec::new(alloc);

@@ -12,7 +12,7 @@ mod block_line;
 mod block_link;
 mod block_mate;
 
-pub use block::{Closer, Kind, first_unmatched};
+pub use block::{Closer, Kind};
 pub use block_fault::{check_blocks, one_links, one_match};
 pub use block_link::match_blocks;
 

@@ -1,4 +1,5 @@
 use super::*;
+use crate::block::first_unmatched;
 use il_core::{Keyword, Link, Name, NoMemory, Symbol, TextEnd, Token, TokenKind};
 use il_syntax::parse;
 use std::alloc::Global;

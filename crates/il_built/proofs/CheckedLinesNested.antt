@@ -1,100 +1,26 @@
 -- No procedure begins inside a block of another.
-use Rattle.std.proofs.Common.{◌≡◌, ◌⊎◌, ◌+◌, ◌<◌, ◌≤◌, ℕ, zero, suc, Bool, true, false, List, [], ◌∷◌, ◌++◌, length, take, drop, refl, sym, ◌∙◌, ap, subst, inl, inr, arith, if◌then◌else◌}
+use Rattle.std.proofs.Common.{◌≡◌, ◌⊎◌, ◌+◌, ◌<◌, ◌≤◌, ℕ, zero, suc, Bool, true, false, List, [], ◌∷◌, ◌++◌, length, take, drop, refl, sym, ◌∙◌, ap, subst, inl, inr, arith}
 use Rattle.std.specs.Prelude.{Option, Some, None, slice_get}
 use Rattle.std.specs.Option.{option_and_then}
 use Rattle.std.proofs.lemmas.Bool.{cases_lt}
 use Rattle.std.proofs.lemmas.Option.{slice_get_within}
-use Rattle.il_core.specs.Statement.{Statement, Placed, procedure, if_true, otherwise, end_if, loop, end_loop, end_procedure}
+use Rattle.il_core.specs.Statement.{Statement, Placed, procedure}
 use Rattle.il_syntax.specs.Order.{IsInOrder}
 use Rattle.il_syntax.proofs.Turns.{may_stand, turned, TakeTurns, take_turns}
 use Rattle.il_blocks.specs.declared.block.Kind.{Kind}
-use Rattle.il_blocks.specs.declared.block.Kind.TheVariants as kind
-use Rattle.il_blocks.specs.declared.block.Closer.{Closer}
-use Rattle.il_blocks.specs.declared.block.Closer.TheVariants as closer
-use Rattle.il_blocks.specs.Block.{fits, Bracket, opening, closing, brackets, brackets_of}
+use Rattle.il_blocks.specs.Block.{Bracket, brackets, brackets_of}
 use Rattle.il_blocks.specs.BlockFault.{HasNoFault}
 use Rattle.il_blocks.specs.BlockLabel.{begins, owner}
 use Rattle.il_blocks.specs.BlockLink.{between, Pairs}
-use Rattle.il_blocks.proofs.BlockNest.{scan, scan_one, scan_append, opens_scanned}
+use Rattle.il_blocks.proofs.BlockNest.{scan, scan_append, opens_scanned}
 use Rattle.il_blocks.proofs.BlockChain.{front_next}
 use Rattle.il_blocks.proofs.BlockOne.{between_split}
+use Rattle.il_blocks.proofs.BlockOrder.{Balanced, stays_balanced}
 use Rattle.il_built.proofs.BuiltSorts.{none_some}
 use Rattle.il_built.proofs.CheckedLinesBlocks.{open_at, opened_still}
 use Rattle.il_built.proofs.CheckedLinesCounts.{owner_next}
 use Rattle.il_built.proofs.CheckedLinesOrder.{drop_here}
 use Rattle.il_built.proofs.Given.{stands}
-
--- no block is open
-abbrev is_none : List Kind → Bool
-is_none [] = true
-is_none (k ∷ ks) = false
-
--- the block of a procedure is open, around all others
-abbrev in_procedure : List Kind → Bool
-in_procedure [] = false
-in_procedure (kind.Procedure ∷ ks) = is_none ks
-in_procedure (_ ∷ ks) = in_procedure ks
-
--- in a procedure its block is open, outside none
-abbrev pub Balanced : Bool → List Kind → Type 0
-Balanced false ks = ks ≡ []
-Balanced true ks = in_procedure ks ≡ true
-
-none_is : (ks : List Kind) → is_none ks ≡ true → ks ≡ []
-none_is [] e = refl
-none_is (k ∷ ks) e = absurd (let z : false ≡ true = e in cc)
-
--- a closer other than ENDPROC closes a block in a procedure
-closes : (c : Closer) (ks js : List Kind) → fits c kind.Procedure ≡ false → in_procedure ks ≡ true → scan_one (closing c) ks ≡ Some js → in_procedure js ≡ true
-closes c [] js h p e = none_some js e
-closes c (k ∷ ks) js h p e = by (fits c k) refl e
-  where
-    inner : (k : Kind) → fits c k ≡ true → in_procedure (k ∷ ks) ≡ true → in_procedure ks ≡ true
-    inner kind.Procedure f q = absurd (let z : false ≡ true = sym h ∙ f in cc)
-    inner _ f q = q
-
-    by : (b : Bool) → fits c k ≡ b → (if b then Some ks else None) ≡ Some js → in_procedure js ≡ true
-    by true f e = let same : ks ≡ js = cc in ap in_procedure (sym same) ∙ inner k f p
-    by false f e = none_some js e
-
--- ENDPROC closes the block of the procedure
-closes_all : (ks js : List Kind) → in_procedure ks ≡ true → scan_one (closing closer.ByEndProc) ks ≡ Some js → js ≡ []
-closes_all [] js p e = none_some js e
-closes_all (kind.Procedure ∷ ks) js p e =
-    let z : ◌≡◌ {A = Option (List Kind)} (Some ks) (Some js) = e in
-    let same : ks ≡ js = cc in
-    sym same ∙ none_is ks p
-closes_all (_ ∷ ks) js p e = none_some js e
-
--- a scan of one bracket, and of one and an opener, by its steps
-last_one : (o : Option (List Kind)) (js : List Kind) → option_and_then (scan []) o ≡ Some js → o ≡ Some js
-last_one None js e = e
-last_one (Some ks) js e = e
-
-last_two : (k : Kind) (o : Option (List Kind)) (js : List Kind) → option_and_then (scan (opening k ∷ [])) o ≡ Some js → (is : List Kind) × (o ≡ Some is) × (k ∷ is ≡ js)
-last_two k None js e = none_some js e
-last_two k (Some is) js e = let f : k ∷ is ≡ js = cc in (is, refl, f)
-
--- past a statement that may stand there
-step : (s : Statement) (b : Bool) (ks js : List Kind) → may_stand s b ≡ true → Balanced b ks → scan (brackets_of s) ks ≡ Some js → Balanced (turned s b) js
-step (procedure _) true ks js m p e = absurd (let z : false ≡ true = m in cc)
-step (procedure _) false ks js m p e = let f : kind.Procedure ∷ ks ≡ js = cc in ap in_procedure (sym f) ∙ ap is_none p
-step end_procedure true ks js m p e = closes_all ks js p (last_one (scan_one (closing closer.ByEndProc) ks) js e)
-step (if_true _) true ks js m p e = let f : kind.Then ∷ ks ≡ js = cc in ap in_procedure (sym f) ∙ p
-step loop true ks js m p e = let f : kind.Round ∷ ks ≡ js = cc in ap in_procedure (sym f) ∙ p
-step end_if true ks js m p e = closes closer.ByEndIf ks js refl p (last_one (scan_one (closing closer.ByEndIf) ks) js e)
-step end_loop true ks js m p e = closes closer.ByEndLoop ks js refl p (last_one (scan_one (closing closer.ByEndLoop) ks) js e)
-step otherwise true ks js m p e =
-    let two = last_two kind.Otherwise (scan_one (closing closer.ByElse) ks) js e in
-    ap in_procedure (sym two.2) ∙ closes closer.ByElse ks two.0 refl p two.1
-step end_procedure false ks js m p e = absurd (let z : false ≡ true = m in cc)
-step (if_true _) false ks js m p e = absurd (let z : false ≡ true = m in cc)
-step loop false ks js m p e = absurd (let z : false ≡ true = m in cc)
-step end_if false ks js m p e = absurd (let z : false ≡ true = m in cc)
-step end_loop false ks js m p e = absurd (let z : false ≡ true = m in cc)
-step otherwise false ks js m p e = absurd (let z : false ≡ true = m in cc)
-step _ true ks js m p e = let f : ks ≡ js = cc in ap in_procedure (sym f) ∙ p
-step _ false ks js m p e = let f : ks ≡ js = cc in sym f ∙ p
 
 -- what is open before the statement numbered i
 pub record Nested (ss : List Placed) (i : ℕ) : Type 0 where
@@ -126,7 +52,7 @@ nested_at ss o n (suc i) h =
       turns = t.1;
       blocks = js.0;
       open_blocks = js.1;
-      balanced = step s.0.says f.within f.blocks js.0 t.0 f.balanced scanned;
+      balanced = stays_balanced s.0.says f.within f.blocks js.0 t.0 f.balanced scanned;
     }
 
 -- where a procedure begins, no block is open
