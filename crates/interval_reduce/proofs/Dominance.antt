@@ -9,7 +9,8 @@ use Rattle.control_flow.specs.Cycle.{IsReducible}
 use Rattle.flow_graph.proofs.Members.{IsIn-push_cases}
 use Rattle.flow_graph.proofs.Spreading.{walk_on}
 use Rattle.interval_reduce.proofs.ReductionLists.{same_or_not, is_in_or_not, drained}
-use Rattle.interval_reduce.proofs.ReductionWalks.{walk_to, walk_end, first_met, met_in, met_last, met_walk, met_before, StandsIn}
+use Rattle.control_flow.proofs.Walks.{walk_end, met_inside, met_walk}
+use Rattle.interval_reduce.proofs.ReductionWalks.{walk_to, first_met, met_last, met_before, StandsIn}
 
 -- a graph of nodes below a limit, all reached from node 0, that no arc enters, and without arcs from a node to itself
 pub record Good (n : ℕ) (N : ℕ → Type 0) (E : ℕ → ℕ → Type 0) : Type 0 where
@@ -54,7 +55,7 @@ module _ (n : ℕ) (N : ℕ → Type 0) (E : ℕ → ℕ → Type 0) (good : Goo
     where
       by_walk : (lines : List ℕ) (x : ℕ) → Meets E (λ k. d ≡ k) 0 lines x → ⊥
       by_walk lines x m =
-          let e : d ≡ x = met_in E (λ k. d ≡ k) 0 lines x m in
+          let e : d ≡ x = met_inside E (λ k. d ≡ k) 0 lines x m in
           let to_d : IsWalk E 0 lines d = subst (λ (y : ℕ). IsWalk E 0 lines y) (sym e) (met_walk E (λ k. d ≡ k) 0 lines x m) in
           let b = met_before E (λ k. d ≡ k) 0 lines x s m (h.on_every lines to_d) g.other in
           b.2 d (g.on_every b.0 b.1) refl
@@ -91,7 +92,7 @@ module _ (n : ℕ) (N : ℕ → Type 0) (E : ℕ → ℕ → Type 0) (good : Goo
       at_entry : (x : ℕ) (lines : List ℕ) → Meets E (IsIn cycle) 0 lines x → ⊥
       at_entry x lines m =
           let o = another x in
-          leaves x o.0 (governed x (met_in E (IsIn cycle) 0 lines x m)) (record { on_every = through o.0 o.1; other = o.2; node = (governed o.0 o.1).node })
+          leaves x o.0 (governed x (met_inside E (IsIn cycle) 0 lines x m)) (record { on_every = through o.0 o.1; other = o.2; node = (governed o.0 o.1).node })
         where
           through : (y : ℕ) → IsIn cycle y → IsOnEvery E 0 x y
           through y i ls r = elim (is_in_or_not (0 ∷ ls) x) [ inl h ↦ h | inr n ↦ absurd (around (first_met E (IsIn cycle) (is_in_or_not cycle) 0 ls y r i) n) ]

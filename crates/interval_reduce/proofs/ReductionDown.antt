@@ -6,7 +6,7 @@ use Rattle.flow_graph.specs.Meeting.{Meets, IsMetAt}
 use Rattle.flow_graph.proofs.Members.{IsIn-push_cases, IsIn-append_cases, IsIn-append_right}
 use Rattle.flow_graph.proofs.Spreading.{walk_on}
 use Rattle.control_flow.specs.Cycle.{HasTwiceEntered, IsTwiceEntered}
-use Rattle.interval_reduce.proofs.ReductionWalks.{walk_append}
+use Rattle.control_flow.proofs.Walks.{walk_join}
 use Rattle.interval_reduce.proofs.Dominance.{Good}
 use Rattle.interval_reduce.proofs.ReductionUp.{Parted, Leads, crossing}
 
@@ -73,7 +73,7 @@ module _ (n : ℕ) (N : ℕ → Type 0) (E : ℕ → ℕ → Type 0) (own place 
       let t = carried c rest b w.1 x.stays in
       let ls = x.way.0 in (
         ls ++ c ∷ t.0,
-        walk_append E a ls x.tail (c ∷ t.0) b x.way.1 (x.arc, t.1),
+        walk_join E a ls x.tail (c ∷ t.0) b x.way.1 (x.arc, t.1),
         (λ k i. elim (IsIn-append_cases (a ∷ ls) (c ∷ t.0) k i) [ inl j ↦ inl (sym (x.way.2 k j)) | inr j ↦ inr (t.2 k j) ]),
         λ m i. elim i [ inl s ↦ inl s | inr j ↦ IsIn-append_right (a ∷ ls) (c ∷ t.0) m (t.3 m j) ],
       )

@@ -16,7 +16,8 @@ use Rattle.control_flow.specs.declared.control.Shape.{Shape}
 use Rattle.interval_reduce.specs.declared.interval.Interval.{Interval}
 use Rattle.interval_reduce.specs.declared.interval.Derivation.{Derivation}
 use Rattle.interval_reduce.specs.Derivation.{AreLevelsOf, EndsInOne, order_of, order_by, IsDerivationOf, Reduces}
-use Rattle.interval_reduce.proofs.ReductionWalks.{walk_append, walk_from, met_walk, met_in}
+use Rattle.control_flow.proofs.Walks.{walk_join, met_inside, met_walk}
+use Rattle.interval_reduce.proofs.ReductionWalks.{walk_from}
 use Rattle.interval_reduce.proofs.ReductionDown.{last_arc}
 use Rattle.interval_reduce.proofs.Dominance.{Good}
 use Rattle.interval_reduce.proofs.Reduction.{reduction}
@@ -62,8 +63,8 @@ module _ (E : ℕ → ℕ → Type 0) where
       by_parts : (a b : ℕ) (lines : List ℕ) → IsWalk E a (b ∷ lines) a → IsTwiceEntered E 0 (a ∷ b ∷ lines) → HasTwiceEntered (Onward E) 0
       by_parts a b lines w t =
           let P : ℕ → Type 0 = IsIn (a ∷ b ∷ lines) in
-          let back = walk_from E a (b ∷ lines) a t.0 w (met_in E P 0 t.2.0 t.0 t.2.1) in
-          let start : Reaches E 0 a = (t.2.0 ++ back.0, walk_append E 0 t.2.0 t.0 back.0 a (met_walk E P 0 t.2.0 t.0 t.2.1) back.1) in (
+          let back = walk_from E a (b ∷ lines) a t.0 w (met_inside E P 0 t.2.0 t.0 t.2.1) in
+          let start : Reaches E 0 a = (t.2.0 ++ back.0, walk_join E 0 t.2.0 t.0 back.0 a (met_walk E P 0 t.2.0 t.0 t.2.1) back.1) in (
             a,
             b,
             lines,

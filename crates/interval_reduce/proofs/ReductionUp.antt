@@ -5,7 +5,8 @@ use Rattle.flow_graph.specs.Search.{IsWalk}
 use Rattle.flow_graph.specs.Meeting.{Meets, IsMetAt}
 use Rattle.control_flow.specs.Cycle.{HasTwiceEntered, IsTwiceEntered}
 use Rattle.interval_reduce.proofs.ReductionLists.{same_or_not, is_in_or_not}
-use Rattle.interval_reduce.proofs.ReductionWalks.{walk_end, met_in, StandsIn}
+use Rattle.control_flow.proofs.Walks.{walk_end, met_inside}
+use Rattle.interval_reduce.proofs.ReductionWalks.{StandsIn}
 use Rattle.interval_reduce.proofs.Dominance.{Good}
 
 -- each node belongs to one that belongs to itself; any other is entered from inside alone, from places before its own
@@ -130,7 +131,7 @@ module _ (n : ℕ) (N : ℕ → Type 0) (E : ℕ → ℕ → Type 0) (own place 
           up : (x : ℕ) → IsMetAt E 0 (IsIn (a ∷ b ∷ lines)) x → Entry nodes x
           up x m =
               let f = entry_up (a ∷ b ∷ lines) (own a ∷ nodes) (closed_owns a b lines w) there back 0 m.0 x m.1 (inl (sym parted.first)) in
-              (f.0, met_in E (IsIn (a ∷ b ∷ lines)) 0 m.0 x m.1, (f.1, subst (λ (y : ℕ). Meets (Leads E own) (IsIn (own a ∷ nodes)) y f.1 (own x)) parted.first f.2))
+              (f.0, met_inside E (IsIn (a ∷ b ∷ lines)) 0 m.0 x m.1, (f.1, subst (λ (y : ℕ). Meets (Leads E own) (IsIn (own a ∷ nodes)) y f.1 (own x)) parted.first f.2))
 
           by_nodes : (ns : List ℕ) → IsWalk (Leads E own) (own a) ns (own a) → ((k : ℕ) → IsIn (a ∷ b ∷ lines) k → IsIn (own a ∷ ns) (own k))
               → Entry ns t.0 → Entry ns t.1 → HasTwiceEntered (Leads E own) 0
