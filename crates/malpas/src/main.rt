@@ -1,6 +1,6 @@
 //! The program: it reads a text from standard input and writes its report or its refusal to standard output. The top
 //! call does all of it over any source and sink, so that its contract can name the bytes; `main` hands it the standard
-//! ones and ends with its status. Reading and writing are linear in their bytes; the rest of the cost is that of
+//! ones, the output through a buffer that is emptied at each flush, and ends with its status. Reading and writing are linear in their bytes; the rest of the cost is that of
 //! accepting the text and of analysing its procedures, one after the other.
 #![tactic(auto)]
 
@@ -12,7 +12,7 @@ mod top;
 
 use il_edge::{StdSink, StdSource};
 use std::env;
-use std::io::ErrorKind;
+use std::io::{BufWriter, ErrorKind};
 use std::process::ExitCode;
 use top::malpas;
 
@@ -26,8 +26,11 @@ fn main(rt: HostRuntime) -> ExitCode {
         Ok(words) => words,
         Err(_) => return ExitCode::from(5),
     };
+    let Ok(output) = BufWriter::new(rt.alloc(), rt.stdout()) else {
+        return ExitCode::from(5);
+    };
     let mut source = StdSource::new(rt.stdin());
-    let mut sink = StdSink::new(rt.stdout());
+    let mut sink = StdSink::new(output);
     let outcome = malpas(rt.alloc(), words.as_slice(), &mut source, &mut sink);
     ExitCode::from(outcome.status)
 }
