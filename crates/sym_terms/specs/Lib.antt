@@ -4,3 +4,5 @@ pub mod Substitution
 pub mod Measure
 pub mod Grown
 pub mod Nodes
+pub mod Comparison
+pub mod Identity
