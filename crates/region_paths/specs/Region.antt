@@ -1,9 +1,6 @@
--- A region begins at line 0 or at a loop head; its inputs are the states in which it may be entered.
+-- A region begins at line 0 or at a loop head. Its inputs are the initial states for line 0, and all states in range for a head.
 use Rattle.std.specs.Prelude.{ℕ, zero, suc, Bool, false, ◌||◌, List, [], ◌∷◌, ◌++◌, nat_eq, if◌then◌else◌}
-use Rattle.il_core.specs.Evaluation.{State}
 use Rattle.il_core.specs.Procedure.{Procedure}
-use Rattle.il_core.specs.Run.{IsInRange, IsInitial}
-use Rattle.il_core.specs.declared.line.Place.{Place}
 use Rattle.flow_graph.specs.Graph.{graph_of, Joins}
 use Rattle.control_flow.specs.Cycle.{IsReducible}
 use Rattle.control_flow.specs.Control.{AreLoops, heads_of}
@@ -12,11 +9,6 @@ use Rattle.control_flow.specs.declared.control.LoopInfo.{LoopInfo}
 -- the first lines of the regions, ascending
 abbrev pub first_lines : List LoopInfo → List ℕ
 first_lines loops = 0 ∷ heads_of loops
-
--- the inputs of line 0 are the initial states, those of a head the states in range
-abbrev pub IsInput : List Place → ℕ → State → Type 0
-IsInput places zero s = IsInitial places s
-IsInput places (suc pc) s = IsInRange places s
 
 abbrev pub is_head : List LoopInfo → ℕ → Bool
 is_head [] q = false
