@@ -1,0 +1,1 @@
+//! Laws of runs and threats, as contracts of functions that do nothing.

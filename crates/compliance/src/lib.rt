@@ -1,0 +1,8 @@
+//! Threats of a reducible procedure: the ways in which a run may come to a fault, fail an assertion or end outside the
+//! postcondition, and why no run does where each of them is refuted.
+//!
+//! A run is cut at the loop heads that it passes, and each piece is a path of one region: this is the method of inductive
+//! assertions (R. W. Floyd, Assigning meanings to programs, 1967).
+#![tactic(auto)]
+
+mod laws;
