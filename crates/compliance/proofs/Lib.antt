@@ -1,1 +1,3 @@
 pub mod CutRuns
+pub mod QuietLines
+pub mod Openings
