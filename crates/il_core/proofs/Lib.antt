@@ -1,3 +1,5 @@
 pub mod Integers
 pub mod BoundsHold
 pub mod StepKeeps
+pub mod Quotients
+pub mod Inputs
