@@ -1,1 +1,5 @@
-pub mod Worked
+pub mod Marks
+pub mod Cuts
+pub mod Orders
+pub mod Descent
+pub mod Taking
