@@ -1,1 +1,10 @@
-pub mod Worked
+pub mod Marks
+pub mod Cuts
+pub mod Orders
+pub mod Descent
+pub mod Taking
+pub mod Matching
+pub mod Fits
+pub mod Trees
+pub mod Steps
+pub mod Listed

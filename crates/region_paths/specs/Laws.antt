@@ -52,4 +52,4 @@ pub record AreOneByDecisions (p : Procedure) (loops : List LoopInfo) (pc : ℕ) 
   pub long : (a b : RegionPath) → IsLongPath p loops pc a → IsLongPath p loops pc b → a.row.path ≡ b.row.path → a ≡ b
 
 abbrev pub DecisionsTellPaths : Type 0
-DecisionsTellPaths = (p : Procedure) (loops : List LoopInfo) (pc : ℕ) → AreOneByDecisions p loops pc
+DecisionsTellPaths = (p : Procedure) (loops : List LoopInfo) (pc : ℕ) → BeginsRegion p loops pc → AreOneByDecisions p loops pc

@@ -4,6 +4,7 @@ use Rattle.il_core.specs.Procedure.{Procedure}
 use Rattle.il_core.specs.LineGraph.{IsIn}
 use Rattle.il_core.specs.declared.line.Stop.{Stop}
 use Rattle.control_flow.specs.declared.control.LoopInfo.{LoopInfo}
+use Rattle.sym_terms.specs.Tree.{Tree}
 use Rattle.sym_terms.specs.Identity.{own_values}
 use Rattle.test_graph.specs.Way.{Way}
 use Rattle.region_paths.specs.Chain.{IsChain, IsLongChain}
@@ -13,18 +14,18 @@ pub record RegionPath : Type 0 where
   pub row : PlainRow
   pub stop : Stop
 
--- the plain row of a chain, before which each place has its own value
-pub record IsRowOf (Chain : List Way → Stop → Type 0) (p : Procedure) (r : RegionPath) : Type 0 where
+-- the plain row of a chain, before which the places have these terms
+pub record IsRowOf (Chain : List Way → Stop → Type 0) (terms : List Tree) (r : RegionPath) : Type 0 where
   pub ways : List Way
   pub chain : Chain ways r.stop
-  pub row : r.row ≡ along ways (own_values (length p.places))
+  pub row : r.row ≡ along ways terms
 
--- a path of the region that begins at line pc
+-- a path of the region that begins at line pc, where each place has its own value
 abbrev pub IsShortPath : Procedure → List LoopInfo → ℕ → RegionPath → Type 0
-IsShortPath p loops pc r = IsRowOf (IsChain p loops pc) p r
+IsShortPath p loops pc r = IsRowOf (IsChain p loops pc) (own_values (length p.places)) r
 
 abbrev pub IsLongPath : Procedure → List LoopInfo → ℕ → RegionPath → Type 0
-IsLongPath p loops pc r = IsRowOf (IsLongChain p loops pc) p r
+IsLongPath p loops pc r = IsRowOf (IsLongChain p loops pc) (own_values (length p.places)) r
 
 -- the order of decisions: where they differ first, true stands before false, and a beginning before what it begins
 abbrev pub is_before : List Bool → List Bool → Bool

@@ -46,12 +46,12 @@ abbrev pub leading_tree : Procedure → ℕ → List ℕ → PathTree
 leading_tree p head [] = stops (stop.Head head)
 leading_tree p head (a ∷ lines) = grafted (passed (leading_tree p head lines)) (decision_at p a)
 
--- the trees of the region that begins at line pc: no path of it passes more lines than the procedure has
+-- the trees of the region that begins at line pc, deeper than any path of it goes: none comes to a line twice
 unfoldable pub short_tree : Procedure → List LoopInfo → ℕ → PathTree
-short_tree p loops pc = tree_to p loops (λ q. stops (stop.Head q)) (length p.lines) pc
+short_tree p loops pc = tree_to p loops (λ q. stops (stop.Head q)) (suc (length p.lines)) pc
 
 unfoldable pub long_tree : Procedure → List LoopInfo → ℕ → PathTree
-long_tree p loops pc = tree_to p loops (λ q. leading_tree p q (leading_of loops q)) (length p.lines) pc
+long_tree p loops pc = tree_to p loops (λ q. leading_tree p q (leading_of loops q)) (suc (length p.lines)) pc
 
 -- the path that begins with these decisions, literals and assignments
 abbrev pub begun : List Bool → List Comparison → List Tree → RegionPath → RegionPath
