@@ -1,3 +1,4 @@
 pub mod CutRuns
 pub mod QuietLines
 pub mod Openings
+pub mod NoBadRun
