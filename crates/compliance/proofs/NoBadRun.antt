@@ -1,11 +1,11 @@
 -- Where each threat is plainly refuted, no run halts badly: from an input of a region that has passed the region's opening, a piece of the run
 -- comes to such an input of another region, or halts well.
-use Rattle.std.proofs.Common.{◌≡◌, ◌≢◌, ◌⊎◌, inl, inr, refl, sym, ap, ◌∙◌, subst, ℕ, zero, suc, ◌+◌, ◌<◌, Bool, true, false, ◌&&◌, ◌||◌, eqb, eqb-true, Some, None, Option, List, [], ◌∷◌, ◌++◌, map, length, take, arith}
+use Rattle.std.proofs.Common.{◌≡◌, ◌≢◌, ◌⊎◌, inl, inr, refl, sym, ap, ◌∙◌, subst, ℕ, zero, suc, ◌+◌, ◌<◌, Bool, true, false, ◌&&◌, ◌||◌, eqb, eqb-true, Some, None, Option, List, [], ◌∷◌, ◌++◌, map, length, take, arith, if◌then◌else◌}
 use Rattle.std.specs.Prelude.{filter, slice_get}
 use Rattle.std.proofs.lemmas.Option.{slice_get_within, same_Some}
 use Rattle.il_core.specs.Evaluation.{State}
 use Rattle.il_core.specs.Input.{IsInput}
-use Rattle.il_core.specs.LineGraph.{IsIn, HasArc}
+use Rattle.il_core.specs.LineGraph.{IsIn, HasArc, heads_at}
 use Rattle.il_core.specs.Machine.{Step, goes, step}
 use Rattle.il_core.specs.Procedure.{Procedure}
 use Rattle.il_core.specs.Run.{IsInRange, IsInitial, HasNoBadRun, is_bad}
@@ -16,11 +16,11 @@ use Rattle.il_core.specs.declared.line.Next.TheVariants as next
 use Rattle.il_core.specs.declared.line.Place.{Place}
 use Rattle.il_core.specs.declared.line.Stop.{Stop}
 use Rattle.il_core.specs.declared.line.Stop.TheVariants as stop
-use Rattle.il_core.proofs.StepKeeps.{step-kept}
+use Rattle.il_core.proofs.StepKeeps.{IsKept, step-kept}
 use Rattle.flow_graph.specs.Graph.{graph_of, arc_to}
 use Rattle.flow_graph.proofs.Formed.{graph_formed}
 use Rattle.flow_graph.proofs.LineArcs.{Joins-from_HasArc}
-use Rattle.flow_graph.proofs.Members.{IsIn-from_map}
+use Rattle.flow_graph.proofs.Members.{IsIn-append_cases}
 use Rattle.control_flow.specs.Control.{heads_of}
 use Rattle.control_flow.specs.declared.control.LoopInfo.{LoopInfo}
 use Rattle.line_machine.specs.Cut.{IsMarked, EndsAt, GoesOnAt, Reaches}
@@ -117,3 +117,149 @@ forms_hold [] s h f i = absurd i
 forms_hold (c ∷ cs) s h f (inl e) =
     ap (λ x. form_holds x s) (sym e) ∙ literal_keeps c.relation c.left c.right s ∙ (both_true (comparison_holds c s) (all_hold cs s) h).0
 forms_hold (c ∷ cs) s h f (inr i) = forms_hold cs s (both_true (comparison_holds c s) (all_hold cs s) h).1 f i
+
+-- a member of a filtered list, or of a front of it, is one of the list
+from_filter : {X : Type 0} (p : X → Bool) (xs : List X) (x : X) → IsIn (filter p xs) x → IsIn xs x
+from_filter p [] x i = absurd i
+from_filter p (y ∷ xs) x i = by_test (p y) i (from_filter p xs x)
+  where
+    by_test : (t : Bool) → IsIn (if t then y ∷ filter p xs else filter p xs) x → (IsIn (filter p xs) x → IsIn xs x) → IsIn (y ∷ xs) x
+    by_test true (inl e) later = inl e
+    by_test true (inr j) later = inr (later j)
+    by_test false j later = inr (later j)
+
+from_take : {X : Type 0} (n : ℕ) (xs : List X) (x : X) → IsIn (take n xs) x → IsIn xs x
+from_take zero xs x i = absurd i
+from_take (suc n) [] x i = absurd i
+from_take (suc n) (y ∷ xs) x (inl e) = inl e
+from_take (suc n) (y ∷ xs) x (inr i) = inr (from_take n xs x i)
+
+from_core : (fs : List LiteralForm) (f : LiteralForm) → IsIn (core fs) f → IsIn fs f
+from_core fs f i = elim (IsIn-append_cases (filter is_plain fs) (core_disequalities fs) f i) [
+  | inl j ↦ from_filter is_plain fs f j
+  | inr j ↦ from_filter is_disequality fs f (from_take 8 (filter is_disequality fs) f j)
+]
+
+-- what an input meets is not plainly refuted
+met_not_refuted : (places : List Place) (pc : ℕ) (fs : List LiteralForm) (s : State) → Meets places pc fs s → IsPlainlyRefuted places pc fs → ⊥
+met_not_refuted places pc fs s m r = by_case r
+  where
+    core_met : Meets places pc (core fs) s
+    core_met = record { input = m.input; each = λ f i. m.each f (from_core fs f i) }
+
+    by_case : IsPlainlyRefuted places pc fs → ⊥
+    by_case (inl none) = none s core_met
+    by_case (inr t) = t.3 s core_met (m.each t.0 t.1)
+
+-- an input of a region that has passed the region's opening
+pub record HasEntered (p : Procedure) (loops : List LoopInfo) (pc : ℕ) (s : State) : Type 0 where
+  pub first : IsIn (first_lines loops) pc
+  pub input : IsInput p.places pc s
+  pub passed : ArePassed p (opening loops pc) s
+
+input_in_range : (places : List Place) (pc : ℕ) (s : State) → IsInput places pc s → IsInRange places s
+input_in_range places zero s i = i.in_range
+input_in_range places (suc pc) s i = i
+
+in_range_input : (places : List Place) (pc : ℕ) (s : State) → pc ≢ 0 → IsInRange places s → IsInput places pc s
+in_range_input places zero s n r = absurd (n refl)
+in_range_input places (suc pc) s n r = r
+
+-- a head that a run comes to
+abbrev pub IsMet : Procedure → List Bool → Stop → Type 0
+IsMet p cuts (stop.Halted h) = Unit {0}
+IsMet p cuts (stop.Head q) = IsMarked cuts q × (q ≢ 0)
+
+-- no arc goes to line 0
+not_start : (p : Procedure) (a q : ℕ) → IsChecked p → HasArc p a q → q ≢ 0
+not_start p a q c h = ((graph_formed p c).arcs (arc_to a q) (Joins-from_HasArc p a q h)).enters_no_start
+
+-- steps lead to a state in range, and to a marked line other than line 0 where they do not halt
+reached : (p : Procedure) (cuts : List Bool) (k pc : ℕ) (s : State) (end : Stop) (mid : State) → IsChecked p → IsInRange p.places s → Reaches p cuts k pc s end mid
+    → IsInRange p.places mid × IsMet p cuts end
+reached p cuts zero pc s end mid c r h = (subst (IsInRange p.places) (sym h.1) t.in_range, by_next (step p pc s).next refl h.0)
+  where
+    t : IsKept p.places (length p.lines) (heads_at pc (slice_get p.lines pc)) (step p pc s)
+    t = step-kept p pc s c r
+
+    by_next : (n : Next) → (step p pc s).next ≡ n → EndsAt cuts n end → IsMet p cuts end
+    by_next (next.Halted x) e k = subst (IsMet p cuts) (sym k) tt
+    by_next (next.At q) e k = subst (IsMet p cuts) (sym k.1) (k.0, not_start p pc q c (t.along q e))
+reached p cuts (suc k) pc s end mid c r h = reached p cuts k h.0 (step p pc s).state end mid c (step-kept p pc s c r).in_range h.2
+
+-- a marked line is a head
+in_heads : (loops : List LoopInfo) (q : ℕ) → is_head loops q ≡ true → IsIn (heads_of loops) q
+in_heads [] q h = absurd cc
+in_heads (l ∷ loops) q h = by_test (eqb l.head q) refl h (in_heads loops q)
+  where
+    by_test : (t : Bool) → eqb l.head q ≡ t → (t || is_head loops q) ≡ true → (is_head loops q ≡ true → IsIn (heads_of loops) q) → IsIn (heads_of (l ∷ loops)) q
+    by_test true e k later = inl (eqb-true l.head q e)
+    by_test false e k later = inr (later k)
+
+marked_first : (n : ℕ) (loops : List LoopInfo) (q : ℕ) → IsMarked (head_marks n loops) q → IsIn (first_lines loops) q
+marked_first n loops q h =
+    let l : q < length (head_marks n loops) = slice_get_within (head_marks n loops) q true h in
+    let b : q < n = rw (length-head_marks n loops) at l in
+    inr (in_heads loops q (same_Some (is_head loops q) true (sym (mark_of n loops q b) ∙ h)))
+
+-- a long path that an input takes, which has passed the region's opening, does not stop badly where each threat is refuted
+stops_well : (p : Procedure) (loops : List LoopInfo) (pc : ℕ) (s : State) (r : RegionPath) (h : Halt) → WaysAreSteps → IsChecked p → AreRegions p loops → ThreatsAreRefuted p loops
+    → HasEntered p loops pc s → IsLongPath p loops pc r → all_hold r.row.literals s ≡ true → r.stop ≡ stop.Halted h → is_bad h ≡ true → ⊥
+stops_well p loops pc s r h law c regions refuted g k holds e bad =
+    let range = input_in_range p.places pc s g.input in
+    let threat : IsThreat p loops pc r = record { path = k; bad = ap stops_badly e ∙ bad; behind = leaves_opening p loops pc s r h law c regions range g.passed k holds e } in
+    let met : Meets p.places pc (forms_of r) s = record { input = g.input; each = forms_hold r.row.literals s holds } in
+    met_not_refuted p.places pc (forms_of r) s met (refuted pc r g.first threat)
+
+-- from such an input a piece of the run ends well
+region_piece : (p : Procedure) (loops : List LoopInfo) → InputsTakeOnePath → WaysAreSteps → IsChecked p → AreRegions p loops → ThreatsAreRefuted p loops
+    → (pc : ℕ) (s : State) → HasEntered p loops pc s → GoodPiece p (head_marks (length p.lines) loops) (HasEntered p loops) pc s
+region_piece p loops takes law c regions refuted pc s g = record {
+  count = steps.0;
+  end = met;
+  to_s = mid;
+  reaches = steps.1;
+  well = by_met met steps.1 on;
+}
+  where
+    range : IsInRange p.places s
+    range = input_in_range p.places pc s g.input
+
+    t : TakesOne (IsLongPath p loops pc) (LongStepsTo p loops pc s) s
+    t = (takes p loops pc s (record { checked = c; regions = regions; first = g.first }) range).long
+
+    met : Stop
+    met = t.leads.0
+
+    mid : State
+    mid = t.leads.1
+
+    steps : StepsTo p loops pc s met mid
+    steps = t.leads.2
+
+    on : StepsOn p loops met mid t.path.stop (state_of t.path.row.values s)
+    on = t.leads.3
+
+    not_bad : (h : Halt) (b : Bool) → t.path.stop ≡ stop.Halted h → is_bad h ≡ b → is_bad h ≡ false
+    not_bad h true e k = absurd (stops_well p loops pc s t.path h law c regions refuted g t.there t.holds e k)
+    not_bad h false e k = k
+
+    by_met : (end : Stop) → Reaches p (head_marks (length p.lines) loops) steps.0 pc s end mid → StepsOn p loops end mid t.path.stop (state_of t.path.row.values s)
+        → EndsWell (HasEntered p loops) end mid
+    by_met (stop.Halted h) r o = not_bad h (is_bad h) o.0 refl
+    by_met (stop.Head q) r o =
+        let k = reached p (head_marks (length p.lines) loops) steps.0 pc s (stop.Head q) mid c range r in
+        elim (through_quiet p q (leading_of loops q) mid t.path.stop (state_of t.path.row.values s) (λ a i. leading_quiet p loops q a regions i) o) [
+          | inl x ↦ record {
+            first = marked_first (length p.lines) loops q k.1.0;
+            input = in_range_input p.places q mid k.1.1 k.0;
+            passed = opening_passed p loops q mid regions x.2;
+          }
+          | inr x ↦ absurd (stops_well p loops pc s t.path x.0 law c regions refuted g t.there t.holds x.1 x.2)
+        ]
+
+-- where each threat is plainly refuted, no run from the precondition halts badly
+pub no_bad_run : (p : Procedure) (loops : List LoopInfo) → InputsTakeOnePath → WaysAreSteps → IsChecked p → AreRegions p loops → ThreatsAreRefuted p loops → HasNoBadRun p
+no_bad_run p loops takes law c regions refuted n s to_s halt inside h =
+    let start : HasEntered p loops 0 s = record { first = inl refl; input = inside.0; passed = λ q i. absurd (start_not_opened p loops q c regions i) } in
+    cut_runs p (head_marks (length p.lines) loops) (HasEntered p loops) (region_piece p loops takes law c regions refuted) n 0 s halt to_s start h

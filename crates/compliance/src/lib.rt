@@ -6,3 +6,5 @@
 #![tactic(auto)]
 
 mod laws;
+
+pub use laws::refuted_threats_mean_no_bad_run;
