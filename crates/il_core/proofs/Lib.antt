@@ -3,3 +3,4 @@ pub mod BoundsHold
 pub mod StepKeeps
 pub mod Quotients
 pub mod Inputs
+pub mod Wrapped

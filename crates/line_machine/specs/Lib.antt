@@ -3,3 +3,4 @@ pub mod Cut
 pub mod Laws
 pub mod Arcs
 pub mod Sample
+pub mod Static

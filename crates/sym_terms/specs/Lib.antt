@@ -6,3 +6,4 @@ pub mod Grown
 pub mod Nodes
 pub mod Comparison
 pub mod Identity
+pub mod Places
