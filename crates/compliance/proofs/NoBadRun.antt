@@ -157,7 +157,7 @@ pub record HasEntered (p : Procedure) (loops : List LoopInfo) (pc : ℕ) (s : St
   pub input : IsInput p.places pc s
   pub passed : ArePassed p (opening loops pc) s
 
-input_in_range : (places : List Place) (pc : ℕ) (s : State) → IsInput places pc s → IsInRange places s
+pub input_in_range : (places : List Place) (pc : ℕ) (s : State) → IsInput places pc s → IsInRange places s
 input_in_range places zero s i = i.in_range
 input_in_range places (suc pc) s i = i
 

@@ -79,7 +79,7 @@ loop_found (l ∷ loops) h a i = by_test (loop_found loops h a) (eqb l.head h) r
     }
 
 -- a list with an element, of the leading lines of a head, has exactly its leading assertions
-leading_lists : (p : Procedure) (loops : List LoopInfo) (h a : ℕ) → AreRegions p loops → IsIn (leading_of loops h) a
+pub leading_lists : (p : Procedure) (loops : List LoopInfo) (h a : ℕ) → AreRegions p loops → IsIn (leading_of loops h) a
     → Lists (IsLeading (graph_of p).nodes h) (leading_of loops h)
 leading_lists p loops h a r i =
     let f = loop_found loops h a i in

@@ -158,7 +158,7 @@ unfolding step
 quiet_step p q s k = subst (λ (o : Option Instruction). PassesOrFails q s (stepped_at p.places q s o)) (sym k.there) (quiet_stepped p.places q s k.instruction k.quiet)
 
 -- the line of a kind
-kind_there : (p : Procedure) (q : ℕ) (k : NodeKind) → kind_at (graph_of p).nodes q ≡ Some k → (i : Instruction) × (slice_get p.lines q ≡ Some i) × (kind_of i ≡ k)
+pub kind_there : (p : Procedure) (q : ℕ) (k : NodeKind) → kind_at (graph_of p).nodes q ≡ Some k → (i : Instruction) × (slice_get p.lines q ≡ Some i) × (kind_of i ≡ k)
 kind_there p q k h = by_line (slice_get p.lines q) refl (slice_get-map (node_of (returned_from 0 p.places)) p.lines q)
   where
     by_line : (o : Option Instruction) → slice_get p.lines q ≡ o → slice_get (graph_of p).nodes q ≡ option_map (node_of (returned_from 0 p.places)) o

@@ -1,5 +1,6 @@
--- What holds of the runs of each checked procedure in which no cycle is twice entered.
-use Rattle.std.specs.Prelude.{ℕ, List}
+-- What holds of the runs and the threats of each checked procedure in which no cycle is twice entered.
+use Rattle.std.specs.Prelude.{◌≡◌, ℕ, List}
+use Rattle.il_core.specs.Evaluation.{State}
 use Rattle.il_core.specs.LineGraph.{IsIn}
 use Rattle.il_core.specs.Procedure.{Procedure}
 use Rattle.il_core.specs.Run.{HasNoBadRun}
@@ -7,8 +8,12 @@ use Rattle.il_core.specs.Checked.{IsChecked}
 use Rattle.control_flow.specs.declared.control.LoopInfo.{LoopInfo}
 use Rattle.region_paths.specs.Region.{AreRegions, first_lines}
 use Rattle.region_paths.specs.Listing.{RegionPath}
-use Rattle.path_inputs.specs.Least.{IsPlainlyRefuted}
+use Rattle.region_paths.specs.Laws.{BeginsRegion}
+use Rattle.path_inputs.specs.Least.{Meets, IsPlainlyRefuted}
 use Rattle.compliance.specs.Threat.{IsThreat, forms_of}
+use Rattle.compliance.specs.Verdict.{TakesPath}
+use Rattle.compliance.specs.Safe.{AreThreatsOf, IsSafeWhereRefuted}
+use Rattle.compliance.specs.declared.threat.Threat.{Threat}
 
 -- each threat of each region is plainly refuted
 abbrev pub ThreatsAreRefuted : Procedure → List LoopInfo → Type 0
@@ -17,3 +22,13 @@ ThreatsAreRefuted p loops = (pc : ℕ) (r : RegionPath) → IsIn (first_lines lo
 -- where each threat is plainly refuted, no run from the precondition halts badly, however long it is
 abbrev pub RefutedThreatsMeanNoBadRun : Type 0
 RefutedThreatsMeanNoBadRun = (p : Procedure) (loops : List LoopInfo) → IsChecked p → AreRegions p loops → ThreatsAreRefuted p loops → HasNoBadRun p
+
+-- the same of a list of the threats of all regions within their size, where each region is
+abbrev pub RefutedListsMeanNoBadRun : Type 0
+RefutedListsMeanNoBadRun = (p : Procedure) (loops : List LoopInfo) (ts : List Threat) → IsChecked p → AreRegions p loops → AreThreatsOf p loops (first_lines loops) ts
+    → IsSafeWhereRefuted p loops ts
+
+-- an input that meets each literal of a threat takes it
+abbrev pub MetThreatsAreTaken : Type 0
+MetThreatsAreTaken = (p : Procedure) (loops : List LoopInfo) (pc : ℕ) (r : RegionPath) (s : State) → BeginsRegion p loops pc → IsThreat p loops pc r
+    → Meets p.places pc (forms_of r) s → TakesPath p pc s r

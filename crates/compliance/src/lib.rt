@@ -6,5 +6,7 @@
 #![tactic(auto)]
 
 mod laws;
+mod threat;
 
-pub use laws::refuted_threats_mean_no_bad_run;
+pub use laws::{met_threats_are_taken, refuted_lists_mean_no_bad_run, refuted_threats_mean_no_bad_run};
+pub use threat::{Threat, Verdict};
