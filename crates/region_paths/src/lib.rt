@@ -3,5 +3,6 @@
 
 mod laws;
 mod size;
+mod tally;
 
 pub use size::Limit;
