@@ -5,5 +5,4 @@ pub mod Listing
 pub mod Stepping
 pub mod PathTree
 pub mod Size
-pub mod Tally
 pub mod Laws
