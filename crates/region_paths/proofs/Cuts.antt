@@ -1,5 +1,5 @@
 -- The heads cut every cycle that can be reached from the first line of a region.
-use Rattle.std.proofs.Common.{◌≡◌, ◌⊎◌, inl, inr, refl, sym, ap, ◌∙◌, subst, ℕ, zero, suc, ◌+◌, ◌<◌, ◌≤◌, Bool, true, Some, List, [], ◌∷◌, ◌++◌, length, map, slice_get, arith}
+use Rattle.std.proofs.Common.{inl, inr, ap, ◌∙◌, subst, ℕ, ◌<◌, Some, List, [], ◌∷◌, ◌++◌, length, arith}
 use Rattle.std.proofs.lemmas.List.{length-map}
 use Rattle.il_core.specs.LineGraph.{IsIn, IsPath}
 use Rattle.il_core.specs.Procedure.{Procedure}
@@ -15,7 +15,7 @@ use Rattle.control_flow.specs.Loop.{IsHead}
 use Rattle.control_flow.specs.declared.control.LoopInfo.{LoopInfo}
 use Rattle.control_flow.proofs.OneEntry.{head_on_cycle}
 use Rattle.control_flow.proofs.Walks.{walk_end, walk_join}
-use Rattle.region_paths.specs.Region.{first_lines, head_marks, is_head}
+use Rattle.region_paths.specs.Region.{first_lines, head_marks}
 use Rattle.region_paths.specs.Laws.{BeginsRegion}
 use Rattle.region_paths.proofs.Marks.{mark_of, is_head-in}
 
@@ -58,5 +58,5 @@ heads_cut p loops pc b = λ before round q to around some. cut_at q before round
         let reached = first_reached p loops pc b in
         let walk = IsWalk-from_path p q (s ∷ lines) q around in
         let t = head_on_cycle (graph_of p).arcs q s lines b.regions.reducible
-            (reached.0 ++ before, walk_join (Joins (graph_of p).arcs) 0 reached.0 pc before q reached.1 (IsWalk-from_path p pc before q to)) walk in
+        (reached.0 ++ before, walk_join (Joins (graph_of p).arcs) 0 reached.0 pc before q reached.1 (IsWalk-from_path p pc before q to)) walk in
         (t.0, on_round (Joins (graph_of p).arcs) q s lines t.0 walk t.1, head_marked p loops pc t.0 b t.2)

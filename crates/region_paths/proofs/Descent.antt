@@ -1,13 +1,10 @@
 -- The paths down a tree stand in order, and each state takes exactly one of them.
-use Rattle.std.proofs.Common.{◌≡◌, ◌⊎◌, inl, inr, refl, sym, ap, ◌∙◌, subst, ℕ, Bool, true, false, not, ◌&&◌, List, [], ◌∷◌, ◌++◌, map}
-use Rattle.std.proofs.lemmas.Bool.{cases_Bool, and_parts, and_from}
-use Rattle.il_core.specs.Evaluation.{State}
+use Rattle.std.proofs.Common.{◌≡◌, inl, inr, refl, ◌∙◌, subst, Bool, true, false, List, [], ◌∷◌, ◌++◌, map}
 use Rattle.il_core.specs.LineGraph.{IsIn}
-use Rattle.flow_graph.proofs.Members.{IsIn-append_left, IsIn-append_right, IsIn-append_cases, IsIn-map, IsIn-from_map}
+use Rattle.flow_graph.proofs.Members.{IsIn-append_cases, IsIn-from_map}
 use Rattle.sym_terms.specs.Tree.{Tree}
-use Rattle.sym_terms.specs.Comparison.{Comparison, comparison_holds, comparison_under, denied}
-use Rattle.test_graph.specs.Decision.{Change}
-use Rattle.test_graph.specs.Way.{all_hold, changed}
+use Rattle.sym_terms.specs.Comparison.{Comparison, comparison_under, denied}
+use Rattle.test_graph.specs.Way.{changed}
 use Rattle.region_paths.specs.PlainRow.{assigned_under}
 use Rattle.region_paths.specs.Listing.{RegionPath, is_before, Ascend}
 use Rattle.region_paths.specs.PathTree.{PathTree, fork, change, stops, begun, paths_down}

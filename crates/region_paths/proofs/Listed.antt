@@ -1,5 +1,5 @@
 -- The laws of the paths of a region.
-use Rattle.std.proofs.Common.{◌≡◌, refl, sym, ap, ◌∙◌, subst, ℕ, Bool, true, List, length}
+use Rattle.std.proofs.Common.{◌≡◌, sym, ap, ◌∙◌, subst, ℕ, true, List, length}
 use Rattle.il_core.specs.Evaluation.{State}
 use Rattle.il_core.specs.LineGraph.{IsIn}
 use Rattle.il_core.specs.Procedure.{Procedure}
@@ -8,11 +8,12 @@ use Rattle.il_core.specs.declared.line.Stop.{Stop}
 use Rattle.control_flow.specs.declared.control.LoopInfo.{LoopInfo}
 use Rattle.sym_terms.specs.Substitution.{state_of}
 use Rattle.sym_terms.specs.Identity.{own_values}
+use Rattle.sym_terms.proofs.Composed.{own_state}
 use Rattle.test_graph.specs.Way.{Way, all_hold}
 use Rattle.test_graph.specs.Laws.{WaysAreSteps, WaysGoAlongArcs}
 use Rattle.region_paths.specs.Chain.{IsChain, IsLongChain}
-use Rattle.region_paths.specs.PlainRow.{PlainRow, along}
-use Rattle.region_paths.specs.Listing.{RegionPath, IsRowOf, ListsPaths, IsShortPath, IsLongPath}
+use Rattle.region_paths.specs.PlainRow.{PlainRow}
+use Rattle.region_paths.specs.Listing.{RegionPath, IsRowOf, ListsPaths}
 use Rattle.region_paths.specs.Stepping.{StepsTo, LongStepsTo, TakesOne}
 use Rattle.region_paths.specs.PathTree.{PathTree, paths_down, short_tree, long_tree, short_paths, long_paths}
 use Rattle.region_paths.specs.Laws.{BeginsRegion, AreListed, TakesPaths, AreOneByDecisions}
@@ -21,7 +22,7 @@ use Rattle.region_paths.proofs.Descent.{paths_down-ascend}
 use Rattle.region_paths.proofs.Taking.{taken_down, once_down}
 use Rattle.region_paths.proofs.Matching.{Matches}
 use Rattle.region_paths.proofs.Trees.{short_matches, long_matches}
-use Rattle.region_paths.proofs.Fits.{fits, ended, along-holds, along-ends, state_own}
+use Rattle.region_paths.proofs.Fits.{fits, ended, along-holds, along-ends}
 use Rattle.region_paths.proofs.Steps.{chain_steps, long_chain_steps}
 
 -- a tree that matches some chains lists their rows
@@ -53,7 +54,7 @@ takes_one p t C Leads s r m leads = record {
     k = (m (own_values (length p.places)) row.0).0 row.1
 
     own : state_of (own_values (length p.places)) s ≡ s
-    own = state_own (length p.places) s r.size
+    own = own_state s (length p.places) r.size
 
     fit : fits k.ways s ≡ true
     fit =

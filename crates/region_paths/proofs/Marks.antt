@@ -1,5 +1,5 @@
 -- The marks of the heads: one for each line, set exactly at the heads.
-use Rattle.std.proofs.Common.{◌≡◌, ◌⊎◌, inl, inr, refl, sym, ap, ◌∙◌, subst, ℕ, zero, suc, ◌+◌, ◌<◌, ◌≤◌, eqb, Bool, true, false, ◌||◌, Some, List, [], ◌∷◌, ◌++◌, length, map, slice_get, arith}
+use Rattle.std.proofs.Common.{◌≡◌, inl, inr, refl, sym, ap, ◌∙◌, ℕ, zero, suc, ◌<◌, eqb, Bool, true, false, ◌||◌, Some, List, [], ◌∷◌, ◌++◌, length, slice_get, arith}
 use Rattle.std.proofs.lemmas.Bool.{cases_lt, eq-eqb}
 use Rattle.std.proofs.lemmas.List.{length-append}
 use Rattle.il_core.specs.LineGraph.{IsIn}
@@ -30,8 +30,8 @@ mark_of zero loops q h = absurd (omega arith)
 mark_of (suc n) loops q h = elim (cases_lt q n) [
   | inl low ↦ slice_get-left (head_marks n loops) (is_head loops n ∷ []) q (omega (arith, length-head_marks n loops, low)) ∙ mark_of n loops q low
   | inr high ↦
-    let e : q ≡ n = omega (arith, high, h) in
-    slice_get-push (head_marks n loops) (is_head loops n) q (omega (arith, length-head_marks n loops, e)) ∙ ap (λ (k : ℕ). Some (is_head loops k)) (sym e)
+      let e : q ≡ n = omega (arith, high, h) in
+      slice_get-push (head_marks n loops) (is_head loops n) q (omega (arith, length-head_marks n loops, e)) ∙ ap (λ (k : ℕ). Some (is_head loops k)) (sym e)
 ]
 
 or_left : (b c : Bool) → b ≡ true → (b || c) ≡ true

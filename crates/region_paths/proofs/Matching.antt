@@ -1,7 +1,7 @@
 -- A tree has exactly the rows of some chains: the decisions of a line with trees below have the rows of the line's ways, each followed by
 -- what stands below its end.
-use Rattle.std.proofs.Common.{◌≡◌, ◌⊎◌, inl, inr, refl, sym, ap, ◌∙◌, subst, ℕ, Bool, true, false, List, [], ◌∷◌, ◌++◌, map}
-use Rattle.std.specs.Prelude.{◌↔◌, MatchBool, if◌then◌else◌, Option}
+use Rattle.std.proofs.Common.{◌≡◌, inl, inr, refl, sym, ap, ◌∙◌, subst, Bool, true, false, List, [], ◌∷◌, map}
+use Rattle.std.specs.Prelude.{◌↔◌, Option}
 use Rattle.il_core.specs.LineGraph.{IsIn}
 use Rattle.il_core.specs.declared.line.Next.{Next}
 use Rattle.il_core.specs.declared.line.Stop.{Stop}
@@ -27,8 +27,8 @@ BeginsIn d C (w ∷ ws) end = IsIn (ways_of d) w × C w.next ws end
 -- the same chains by another name
 pub matches_as : (t : PathTree) (C D : List Way → Stop → Type 0) → Matches t C → ((ws : List Way) (end : Stop) → C ws end ↔ D ws end) → Matches t D
 matches_as t C D m same = λ terms r. (
-    λ i. let k = (m terms r).0 i in record { ways = k.ways; chain = (same k.ways r.stop).0 k.chain; row = k.row },
-    λ k. (m terms r).1 (record { ways = k.ways; chain = (same k.ways r.stop).1 k.chain; row = k.row }),
+  λ i. let k = (m terms r).0 i in record { ways = k.ways; chain = (same k.ways r.stop).0 k.chain; row = k.row },
+  λ k. (m terms r).1 (record { ways = k.ways; chain = (same k.ways r.stop).1 k.chain; row = k.row }),
 )
 
 -- what a path is made of
@@ -104,24 +104,24 @@ fork_matches c s t met unmet C m n terms r = (there, back)
     there : IsIn (paths_down (fork c s t) terms) r → IsRowOf (BeginsIn (ask c met unmet) C) terms r
     there i = elim (IsIn-append_cases (map (begun (true ∷ []) (comparison_under terms c ∷ []) []) (paths_down s terms)) (map (begun (false ∷ []) (comparison_under terms (denied c) ∷ []) []) (paths_down t terms)) r i) [
       | inl l ↦
-        side_there s met (ask c met unmet) C terms true (comparison_under terms c) (decided_true c) r
-        (λ w k. IsIn-append_left (map (decided_true c) (ways_of met)) (map (decided_false c) (ways_of unmet)) (decided_true c w) (IsIn-map (decided_true c) (ways_of met) w k))
-        (λ w. refl) (λ w ws. refl) m l
+          side_there s met (ask c met unmet) C terms true (comparison_under terms c) (decided_true c) r
+          (λ w k. IsIn-append_left (map (decided_true c) (ways_of met)) (map (decided_false c) (ways_of unmet)) (decided_true c w) (IsIn-map (decided_true c) (ways_of met) w k))
+          (λ w. refl) (λ w ws. refl) m l
       | inr l ↦
-        side_there t unmet (ask c met unmet) C terms false (comparison_under terms (denied c)) (decided_false c) r
-        (λ w k. IsIn-append_right (map (decided_true c) (ways_of met)) (map (decided_false c) (ways_of unmet)) (decided_false c w) (IsIn-map (decided_false c) (ways_of unmet) w k))
-        (λ w. refl) (λ w ws. refl) n l
+          side_there t unmet (ask c met unmet) C terms false (comparison_under terms (denied c)) (decided_false c) r
+          (λ w k. IsIn-append_right (map (decided_true c) (ways_of met)) (map (decided_false c) (ways_of unmet)) (decided_false c w) (IsIn-map (decided_false c) (ways_of unmet) w k))
+          (λ w. refl) (λ w ws. refl) n l
     ]
 
     back_by : (ways : List Way) → BeginsIn (ask c met unmet) C ways r.stop → r.row ≡ along ways terms → IsIn (paths_down (fork c s t) terms) r
     back_by [] k e = absurd k
     back_by (v ∷ ws) k e = elim (IsIn-append_cases (map (decided_true c) (ways_of met)) (map (decided_false c) (ways_of unmet)) v k.0) [
       | inl l ↦
-        IsIn-append_left (map (begun (true ∷ []) (comparison_under terms c ∷ []) []) (paths_down s terms)) (map (begun (false ∷ []) (comparison_under terms (denied c) ∷ []) []) (paths_down t terms)) r
-        (side_back s met C terms true (comparison_under terms c) (decided_true c) r v ws (λ w. refl) (λ w vs. refl) m l k.1 e)
+          IsIn-append_left (map (begun (true ∷ []) (comparison_under terms c ∷ []) []) (paths_down s terms)) (map (begun (false ∷ []) (comparison_under terms (denied c) ∷ []) []) (paths_down t terms)) r
+          (side_back s met C terms true (comparison_under terms c) (decided_true c) r v ws (λ w. refl) (λ w vs. refl) m l k.1 e)
       | inr l ↦
-        IsIn-append_right (map (begun (true ∷ []) (comparison_under terms c ∷ []) []) (paths_down s terms)) (map (begun (false ∷ []) (comparison_under terms (denied c) ∷ []) []) (paths_down t terms)) r
-        (side_back t unmet C terms false (comparison_under terms (denied c)) (decided_false c) r v ws (λ w. refl) (λ w vs. refl) n l k.1 e)
+          IsIn-append_right (map (begun (true ∷ []) (comparison_under terms c ∷ []) []) (paths_down s terms)) (map (begun (false ∷ []) (comparison_under terms (denied c) ∷ []) []) (paths_down t terms)) r
+          (side_back t unmet C terms false (comparison_under terms (denied c)) (decided_false c) r v ws (λ w. refl) (λ w vs. refl) n l k.1 e)
     ]
 
     back : IsRowOf (BeginsIn (ask c met unmet) C) terms r → IsIn (paths_down (fork c s t) terms) r

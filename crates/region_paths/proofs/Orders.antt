@@ -1,5 +1,5 @@
 -- The order of decisions is strict, and a list in this order is fixed by its members.
-use Rattle.std.proofs.Common.{◌≡◌, ◌⊎◌, inl, inr, refl, sym, ap, ◌∙◌, subst, ℕ, Bool, true, false, List, [], ◌∷◌, ◌++◌, map}
+use Rattle.std.proofs.Common.{◌≡◌, inl, inr, refl, sym, ◌∙◌, subst, Bool, true, false, List, [], ◌∷◌}
 use Rattle.il_core.specs.LineGraph.{IsIn}
 use Rattle.region_paths.specs.Listing.{RegionPath, is_before, Ascend, ListsPaths}
 

@@ -1,22 +1,20 @@
 -- Where the literals of a chain hold, stepping its lines leads to its stop and to the state behind its ways.
-use Rattle.std.proofs.Common.{◌≡◌, ◌⊎◌, inl, inr, refl, sym, ap, ◌∙◌, subst, ℕ, zero, suc, ◌+◌, ◌<◌, Bool, true, false, Some, List, [], ◌∷◌, length, slice_get, arith}
+use Rattle.std.proofs.Common.{◌≡◌, refl, sym, ap, ◌∙◌, subst, ℕ, suc, Bool, true, false, Some, List, [], ◌∷◌, length, slice_get}
 use Rattle.std.specs.Prelude.{MatchBool}
-use Rattle.std.proofs.lemmas.Bool.{and_parts, MatchBool-at_true, MatchBool-at_false, cases_Bool}
+use Rattle.std.proofs.lemmas.Bool.{and_parts}
 use Rattle.il_core.specs.Evaluation.{State}
 use Rattle.il_core.specs.Machine.{Step, step}
-use Rattle.il_core.specs.LineGraph.{IsIn}
 use Rattle.il_core.specs.Procedure.{Procedure}
 use Rattle.il_core.specs.Run.{IsInRange}
 use Rattle.il_core.specs.Checked.{IsChecked}
-use Rattle.il_core.specs.declared.line.Halt.{Halt}
 use Rattle.il_core.specs.declared.line.Next.{Next}
 use Rattle.il_core.specs.declared.line.Next.TheVariants as next
 use Rattle.il_core.specs.declared.line.Stop.{Stop}
 use Rattle.il_core.specs.declared.line.Stop.TheVariants as stop
 use Rattle.il_core.proofs.StepKeeps.{step-kept}
-use Rattle.line_machine.specs.Cut.{EndsAt, GoesOnAt, Reaches, IsMarked}
+use Rattle.line_machine.specs.Cut.{EndsAt, GoesOnAt, Reaches}
 use Rattle.control_flow.specs.declared.control.LoopInfo.{LoopInfo}
-use Rattle.test_graph.specs.Way.{Way, line_paths, all_hold, led_by, state_behind}
+use Rattle.test_graph.specs.Way.{Way, all_hold, led_by, state_behind}
 use Rattle.test_graph.specs.Laws.{WaysAreSteps}
 use Rattle.region_paths.specs.Region.{is_head, head_marks, leading_of}
 use Rattle.region_paths.specs.Chain.{StopsAt, Onward, IsChainTo, Passes, Leads, IsChain, IsLongChain}
@@ -44,9 +42,14 @@ last_step p loops pc s t end e h = (0, (subst (λ (x : Step). EndsAt (head_marks
 -- one step before others
 one_step : (p : Procedure) (loops : List LoopInfo) (pc : ℕ) (s : State) (t : Step) (mid : ℕ) (end : Stop) (to_s : State) → step p pc s ≡ t
     → GoesOnAt (head_marks (length p.lines) loops) t.next mid → StepsTo p loops mid t.state end to_s → StepsTo p loops pc s end to_s
-one_step p loops pc s t mid end to_s e g r =
-    (suc r.0, (mid, subst (λ (x : Step). GoesOnAt (head_marks (length p.lines) loops) x.next mid) (sym e) g,
-    subst (λ (x : Step). Reaches p (head_marks (length p.lines) loops) r.0 mid x.state end to_s) (sym e) r.1))
+one_step p loops pc s t mid end to_s e g r = (
+  suc r.0,
+  (
+    mid,
+    subst (λ (x : Step). GoesOnAt (head_marks (length p.lines) loops) x.next mid) (sym e) g,
+    subst (λ (x : Step). Reaches p (head_marks (length p.lines) loops) r.0 mid x.state end to_s) (sym e) r.1,
+  ),
+)
 
 -- a chain that fits a state, stepped to a halt or to the first head
 chain_front : (p : Procedure) (loops : List LoopInfo) (B : ℕ → List Way → Stop → Type 0) → WaysAreSteps → IsChecked p → (ws : List Way) (pc : ℕ) (s : State) (end : Stop)

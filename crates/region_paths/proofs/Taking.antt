@@ -1,37 +1,16 @@
 -- Each state takes exactly one of the paths down a tree.
-use Rattle.std.proofs.Common.{◌≡◌, ◌⊎◌, inl, inr, refl, sym, ap, ◌∙◌, subst, ℕ, ℤ, Bool, true, false, not, ◌&&◌, List, [], ◌∷◌, ◌++◌, map, arith}
+use Rattle.std.proofs.Common.{◌≡◌, inl, inr, refl, sym, ap, ◌∙◌, subst, Bool, true, false, not, List, [], ◌∷◌, ◌++◌, map}
 use Rattle.std.proofs.lemmas.Bool.{cases_Bool, and_parts, and_from}
-use Rattle.std.proofs.lemmas.Int.{ints}
-use Rattle.std.specs.Prelude.{int_lt, int_le}
-use Rattle.std.specs.Ordering.{int_eq}
-use Rattle.il_core.specs.Evaluation.{State, compares}
+use Rattle.il_core.specs.Evaluation.{State}
 use Rattle.il_core.specs.LineGraph.{IsIn}
-use Rattle.il_core.specs.declared.operator.Relation.{Relation}
-use Rattle.il_core.specs.declared.operator.Relation.TheVariants.{Eq, Ne, Lt, Le, Gt, Ge}
 use Rattle.flow_graph.proofs.Members.{IsIn-append_left, IsIn-append_right, IsIn-append_cases, IsIn-map, IsIn-from_map}
 use Rattle.sym_terms.specs.Tree.{Tree}
-use Rattle.sym_terms.specs.Value.{value_of}
-use Rattle.sym_terms.specs.Comparison.{Comparison, comparison_holds, comparison_under, denied, denied_relation}
+use Rattle.sym_terms.specs.Comparison.{Comparison, comparison_holds, comparison_under, denied}
+use Rattle.sym_terms.proofs.Comparisons.{denied_holds}
 use Rattle.test_graph.specs.Way.{all_hold, changed}
 use Rattle.region_paths.specs.PlainRow.{assigned_under}
 use Rattle.region_paths.specs.Listing.{RegionPath}
 use Rattle.region_paths.specs.PathTree.{PathTree, fork, change, stops, begun, paths_down}
-
-not_not : (b : Bool) → b ≡ not (not b)
-not_not true = refl
-not_not false = refl
-
-compares-denied : (r : Relation) (a b : ℤ) → compares (denied_relation r) a b ≡ not (compares r a b)
-compares-denied Eq a b = refl
-compares-denied Ne a b = not_not (int_eq a b)
-compares-denied Lt a b = grind (arith, ints)
-compares-denied Le a b = grind (arith, ints)
-compares-denied Gt a b = grind (arith, ints)
-compares-denied Ge a b = grind (arith, ints)
-
--- a denied comparison holds exactly where the comparison does not
-denied_holds : (c : Comparison) (s : State) → comparison_holds (denied c) s ≡ not (comparison_holds c s)
-denied_holds c s = compares-denied c.relation (value_of c.left s) (value_of c.right s)
 
 -- each state takes a path
 abbrev Takes : List RegionPath → State → Type 0
@@ -53,8 +32,8 @@ pub taken_down : (t : PathTree) (terms : List Tree) (s : State) → (r : RegionP
 taken_down (fork c met unmet) terms s = elim (cases_Bool (comparison_holds (comparison_under terms c) s)) [
   | inl h ↦ taken_left _ _ s (taken_behind true (comparison_under terms c) (paths_down met terms) s h (taken_down met terms s))
   | inr h ↦
-    taken_right _ _ s
-    (taken_behind false (comparison_under terms (denied c)) (paths_down unmet terms) s (denied_holds (comparison_under terms c) s ∙ ap not h) (taken_down unmet terms s))
+      taken_right _ _ s
+      (taken_behind false (comparison_under terms (denied c)) (paths_down unmet terms) s (denied_holds (comparison_under terms c) s ∙ ap not h) (taken_down unmet terms s))
 ]
 taken_down (change c rest) terms s =
     let t = taken_down rest (changed c terms) s in
@@ -107,8 +86,8 @@ once_down (change c rest) terms s = λ r q i j h k.
     let b = IsIn-from_map (begun [] [] (assigned_under terms c)) (paths_down rest (changed c terms)) q j in
     sym a.2
     ∙ ap (begun [] [] (assigned_under terms c))
-        (once_down rest (changed c terms) s a.0 b.0 a.1 b.1
-        (subst (λ (y : RegionPath). all_hold y.row.literals s ≡ true) (sym a.2) h)
-        (subst (λ (y : RegionPath). all_hold y.row.literals s ≡ true) (sym b.2) k))
+    (once_down rest (changed c terms) s a.0 b.0 a.1 b.1
+    (subst (λ (y : RegionPath). all_hold y.row.literals s ≡ true) (sym a.2) h)
+    (subst (λ (y : RegionPath). all_hold y.row.literals s ≡ true) (sym b.2) k))
     ∙ b.2
 once_down (stops end) terms s = λ r q i j h k. elim i [ inl e ↦ elim j [ inl f ↦ sym e ∙ f | inr n ↦ absurd n ] | inr n ↦ absurd n ]

@@ -1,8 +1,8 @@
 -- The trees of a region have exactly the rows of its chains.
-use Rattle.std.proofs.Common.{◌≡◌, ◌⊎◌, inl, inr, refl, sym, ap, ◌∙◌, subst, ℕ, zero, suc, ◌+◌, ◌<◌, ◌≤◌, Bool, true, false, Some, List, [], ◌∷◌, ◌++◌, length, slice_get, arith}
+use Rattle.std.proofs.Common.{◌≡◌, refl, sym, ap, ◌∙◌, subst, ℕ, zero, suc, ◌+◌, ◌<◌, Bool, true, false, Some, List, [], ◌∷◌, ◌++◌, length, slice_get, arith}
 use Rattle.std.specs.Prelude.{◌↔◌, MatchBool, if◌then◌else◌}
 use Rattle.std.proofs.lemmas.List.{length-append, length-map}
-use Rattle.il_core.specs.LineGraph.{IsIn, IsPath, HasArc}
+use Rattle.il_core.specs.LineGraph.{IsPath, HasArc}
 use Rattle.il_core.specs.Procedure.{Procedure}
 use Rattle.il_core.specs.Checked.{IsChecked}
 use Rattle.il_core.specs.declared.line.Next.{Next}
@@ -11,12 +11,12 @@ use Rattle.il_core.specs.declared.line.Stop.{Stop}
 use Rattle.il_core.specs.declared.line.Stop.TheVariants as stop
 use Rattle.line_machine.specs.Cut.{CyclesAreCut}
 use Rattle.line_machine.proofs.Ways.{AreUnmarked, few_unmarked}
-use Rattle.flow_graph.specs.Graph.{graph_of, node_of, returned_from, Joins}
+use Rattle.flow_graph.specs.Graph.{node_of, returned_from}
 use Rattle.flow_graph.proofs.Formed.{graph_formed}
 use Rattle.flow_graph.proofs.LineArcs.{Joins-from_HasArc}
 use Rattle.control_flow.specs.declared.control.LoopInfo.{LoopInfo}
-use Rattle.test_graph.specs.Decision.{Decision, decision_at}
-use Rattle.test_graph.specs.Way.{Way, ways_of, line_paths}
+use Rattle.test_graph.specs.Decision.{decision_at}
+use Rattle.test_graph.specs.Way.{Way, line_paths}
 use Rattle.test_graph.specs.Laws.{WaysGoAlongArcs}
 use Rattle.region_paths.specs.Region.{is_head, head_marks, leading_of}
 use Rattle.region_paths.specs.Chain.{StopsAt, Onward, IsChainTo, Passes, Leads, IsChain, IsLongChain}
@@ -89,9 +89,9 @@ tree_matches p loops pc at_head B arcs b m (suc k) q t =
     matches_as (grafted (below loops at_head (λ r. tree_to p loops at_head k r)) (decision_at p q))
     (BeginsIn (decision_at p q) (λ to vs e. Onward loops to vs e (λ r. B r vs e) (λ r. IsChainTo p loops B r vs e))) (IsChainTo p loops B q)
     (grafted_matches (below loops at_head (λ r. tree_to p loops at_head k r))
-        (λ to vs e. Onward loops to vs e (λ r. B r vs e) (λ r. IsChainTo p loops B r vs e)) (decision_at p q)
-        (λ w i. below_matches loops at_head (λ r. tree_to p loops at_head k r) B (IsChainTo p loops B) w.next m
-            (λ r e f. tree_matches p loops pc at_head B arcs b m k r (trail_on p loops pc q r k b.checked t (arcs p q r w i e) f))))
+    (λ to vs e. Onward loops to vs e (λ r. B r vs e) (λ r. IsChainTo p loops B r vs e)) (decision_at p q)
+    (λ w i. below_matches loops at_head (λ r. tree_to p loops at_head k r) B (IsChainTo p loops B) w.next m
+    (λ r e f. tree_matches p loops pc at_head B arcs b m k r (trail_on p loops pc q r k b.checked t (arcs p q r w i e) f))))
     (chain_begins p loops B q)
 
 -- the tree of a region's first line
@@ -117,7 +117,7 @@ leading_matches p head (a ∷ lines) =
     matches_as (grafted (passed (leading_tree p head lines)) (decision_at p a))
     (BeginsIn (decision_at p a) (λ to vs e. Passes to vs e (Leads p head lines vs e))) (Leads p head (a ∷ lines))
     (grafted_matches (passed (leading_tree p head lines)) (λ to vs e. Passes to vs e (Leads p head lines vs e)) (decision_at p a)
-        (λ w i. passed_matches (leading_tree p head lines) (Leads p head lines) w.next (leading_matches p head lines)))
+    (λ w i. passed_matches (leading_tree p head lines) (Leads p head lines) w.next (leading_matches p head lines)))
     (leads_begins p head a lines)
 
 pub short_matches : (p : Procedure) (loops : List LoopInfo) (pc : ℕ) → WaysGoAlongArcs → BeginsRegion p loops pc → Matches (short_tree p loops pc) (IsChain p loops pc)

@@ -1,5 +1,5 @@
 -- What holds of the paths of each region of a reducible procedure.
-use Rattle.std.specs.Prelude.{◌≡◌, ℕ, List, length, true, Bool}
+use Rattle.std.specs.Prelude.{◌≡◌, ℕ, List, length}
 use Rattle.il_core.specs.Evaluation.{State}
 use Rattle.il_core.specs.Procedure.{Procedure}
 use Rattle.il_core.specs.LineGraph.{IsIn}
@@ -8,7 +8,7 @@ use Rattle.il_core.specs.Checked.{IsChecked}
 use Rattle.control_flow.specs.declared.control.LoopInfo.{LoopInfo}
 use Rattle.line_machine.specs.Cut.{CyclesAreCut}
 use Rattle.region_paths.specs.Region.{AreRegions, first_lines, head_marks}
-use Rattle.region_paths.specs.Listing.{RegionPath, IsShortPath, IsLongPath, ListsPaths, AreShortPaths, AreLongPaths}
+use Rattle.region_paths.specs.Listing.{RegionPath, IsShortPath, IsLongPath, AreShortPaths, AreLongPaths}
 use Rattle.region_paths.specs.Stepping.{StepsTo, LongStepsTo, TakesOne}
 use Rattle.region_paths.specs.PathTree.{short_paths, long_paths}
 

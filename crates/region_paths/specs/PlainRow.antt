@@ -1,6 +1,6 @@
 -- The plain row of a path: its decisions, its literals and the terms that it assigns, in order, and the value of each place at its end, by
 -- plain substitution and without simplification.
-use Rattle.std.specs.Prelude.{ℕ, Bool, Option, Some, None, List, [], ◌∷◌, ◌++◌, map}
+use Rattle.std.specs.Prelude.{Bool, Option, Some, None, List, [], ◌∷◌, ◌++◌, map}
 use Rattle.sym_terms.specs.Tree.{Tree}
 use Rattle.sym_terms.specs.Substitution.{substituted}
 use Rattle.sym_terms.specs.Comparison.{Comparison, comparison_under}

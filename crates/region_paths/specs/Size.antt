@@ -3,9 +3,8 @@
 use Rattle.std.specs.Prelude.{◌≡◌, ℕ, ◌+◌, ◌^◌, Option, Some, None, List, [], ◌∷◌, length, max, sum_by, nat_lt, nat_le, if◌then◌else◌}
 use Rattle.il_core.specs.Procedure.{Procedure}
 use Rattle.control_flow.specs.declared.control.LoopInfo.{LoopInfo}
-use Rattle.sym_terms.specs.Tree.{Tree}
 use Rattle.sym_terms.specs.Measure.{nodes, weight, depth}
-use Rattle.sym_terms.specs.Comparison.{Comparison, comparison_nodes, comparison_weight, comparison_depth}
+use Rattle.sym_terms.specs.Comparison.{comparison_nodes, comparison_weight, comparison_depth}
 use Rattle.region_paths.specs.Listing.{RegionPath, AreLongPaths}
 use Rattle.region_paths.specs.declared.size.Limit.{Limit}
 use Rattle.region_paths.specs.declared.size.Limit.TheVariants.{Rows, Nodes, Weight, Depth}

@@ -1,6 +1,7 @@
 //! Laws of regions and their paths, as contracts of functions that do nothing.
 ghost use Rattle.region_paths.specs.Laws.{HeadsCutCycles, PathsAreListed, OneListing, InputsTakeOnePath, DecisionsTellPaths};
-ghost use Rattle.test_graph.specs.Laws.{WaysAreSteps, WaysGoAlongArcs};
+
+use test_graph::{ways_are_steps, ways_go_along_arcs};
 
 /// Each cycle that can be reached from the first line of a region of a reducible procedure holds a loop head.
 pub fn heads_cut_cycles()
@@ -9,10 +10,10 @@ pub fn heads_cut_cycles()
 
 /// The paths down the two trees of a region, those of a true side first, are its paths and its long paths, in order.
 pub fn paths_are_listed()
-    requires arcs { WaysGoAlongArcs }
-    requires steps { WaysAreSteps }
     ensures { PathsAreListed }
-{}
+{
+    ways_go_along_arcs();
+}
 
 /// The paths of a region stand in one order only.
 pub fn one_listing()
@@ -22,14 +23,15 @@ pub fn one_listing()
 /// Each state in range takes exactly one path and one long path of a region, and stepping the lines gives its stop and
 /// its values.
 pub fn inputs_take_one_path()
-    requires arcs { WaysGoAlongArcs }
-    requires steps { WaysAreSteps }
     ensures { InputsTakeOnePath }
-{}
+{
+    ways_are_steps();
+    ways_go_along_arcs();
+}
 
 /// Two paths of a region that have the same decisions are the same.
 pub fn decisions_tell_paths()
-    requires arcs { WaysGoAlongArcs }
-    requires steps { WaysAreSteps }
     ensures { DecisionsTellPaths }
-{}
+{
+    ways_go_along_arcs();
+}
