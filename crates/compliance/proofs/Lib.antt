@@ -5,3 +5,6 @@ pub mod NoBadRun
 pub mod Following
 pub mod Taking
 pub mod SafeLists
+pub mod Verdicts
+pub mod OneVerdict
+pub mod TakenBack

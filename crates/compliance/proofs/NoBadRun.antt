@@ -30,6 +30,7 @@ use Rattle.sym_terms.specs.Comparison.{Comparison, comparison_holds}
 use Rattle.sym_simplify.specs.Literal.{LiteralForm, form_holds}
 use Rattle.sym_simplify.proofs.LiteralForms.{literal_keeps}
 use Rattle.test_graph.specs.Way.{Way, line_paths, all_hold, led_by, state_behind}
+use Rattle.sym_terms.proofs.Composed.{own_state}
 use Rattle.test_graph.specs.Laws.{WaysAreSteps}
 use Rattle.region_paths.specs.Region.{AreRegions, is_head, first_lines, leading_of, head_marks}
 use Rattle.region_paths.specs.Chain.{IsLongChain, IsChainTo, Onward, Leads, Passes}
@@ -37,7 +38,7 @@ use Rattle.region_paths.specs.PlainRow.{PlainRow, along}
 use Rattle.region_paths.specs.Listing.{RegionPath, IsLongPath}
 use Rattle.region_paths.specs.Stepping.{StepsTo, StepsOn, LongStepsTo, TakesOne}
 use Rattle.region_paths.specs.Laws.{BeginsRegion, InputsTakeOnePath}
-use Rattle.region_paths.proofs.Fits.{fits, along-holds, state_own}
+use Rattle.region_paths.proofs.Fits.{fits, along-holds}
 use Rattle.region_paths.proofs.Marks.{length-head_marks, mark_of}
 use Rattle.path_inputs.specs.Core.{is_plain, is_disequality, core, core_disequalities}
 use Rattle.path_inputs.specs.Least.{Meets, IsPlainlyRefuted}
@@ -108,18 +109,18 @@ leaves_opening p loops pc s r h law c regions in_range passed k holds e within =
   where
     fit : fits k.ways s ≡ true
     fit =
-        ap (fits k.ways) (sym (state_own (length p.places) s in_range.size)) ∙ sym (along-holds k.ways (own_values (length p.places)) s)
+        ap (fits k.ways) (sym (own_state s (length p.places) in_range.size)) ∙ sym (along-holds k.ways (own_values (length p.places)) s)
         ∙ ap (λ (x : PlainRow). all_hold x.literals s) (sym k.row) ∙ holds
 
 -- the form of each literal that holds in a state holds there
-forms_hold : (cs : List Comparison) (s : State) → all_hold cs s ≡ true → (f : LiteralForm) → IsIn (map form_of_comparison cs) f → form_holds f s ≡ true
+pub forms_hold : (cs : List Comparison) (s : State) → all_hold cs s ≡ true → (f : LiteralForm) → IsIn (map form_of_comparison cs) f → form_holds f s ≡ true
 forms_hold [] s h f i = absurd i
 forms_hold (c ∷ cs) s h f (inl e) =
     ap (λ x. form_holds x s) (sym e) ∙ literal_keeps c.relation c.left c.right s ∙ (both_true (comparison_holds c s) (all_hold cs s) h).0
 forms_hold (c ∷ cs) s h f (inr i) = forms_hold cs s (both_true (comparison_holds c s) (all_hold cs s) h).1 f i
 
 -- a member of a filtered list, or of a front of it, is one of the list
-from_filter : {X : Type 0} (p : X → Bool) (xs : List X) (x : X) → IsIn (filter p xs) x → IsIn xs x
+pub from_filter : {X : Type 0} (p : X → Bool) (xs : List X) (x : X) → IsIn (filter p xs) x → IsIn xs x
 from_filter p [] x i = absurd i
 from_filter p (y ∷ xs) x i = by_test (p y) i (from_filter p xs x)
   where

@@ -21,13 +21,14 @@ use Rattle.sym_terms.specs.Tree.{Tree}
 use Rattle.sym_terms.specs.Identity.{own_values}
 use Rattle.test_graph.specs.Decision.{decision_of, decision_there, decision_at}
 use Rattle.test_graph.specs.Way.{Way, line_paths, decisions, way_taken, all_hold, changed, state_behind, led_by}
+use Rattle.sym_terms.proofs.Composed.{own_state}
 use Rattle.test_graph.specs.Laws.{WaysAreSteps}
 use Rattle.test_graph.proofs.OneWay.{taken}
 use Rattle.region_paths.specs.Region.{AreRegions, is_head, leading_of}
 use Rattle.region_paths.specs.Chain.{IsLongChain, Onward, Leads, Passes}
 use Rattle.region_paths.specs.PlainRow.{PlainRow, along}
 use Rattle.region_paths.specs.Listing.{RegionPath, IsLongPath}
-use Rattle.region_paths.proofs.Fits.{fits, along-holds, state_own}
+use Rattle.region_paths.proofs.Fits.{fits, along-holds}
 use Rattle.region_paths.specs.Laws.{BeginsRegion}
 use Rattle.sym_terms.specs.Comparison.{Comparison, comparison_holds}
 use Rattle.sym_simplify.specs.Literal.{LiteralForm, form_holds}
@@ -45,7 +46,7 @@ abbrev pub path_of : List Way → List Bool
 path_of [] = []
 path_of (w ∷ ws) = w.path ++ path_of ws
 
-along-path : (ws : List Way) (terms : List Tree) → (along ws terms).path ≡ path_of ws
+pub along-path : (ws : List Way) (terms : List Tree) → (along ws terms).path ≡ path_of ws
 along-path [] terms = refl
 along-path (w ∷ ws) terms = ap (λ x. w.path ++ x) (along-path ws (changed w.change terms))
 
@@ -57,7 +58,7 @@ plain_decided places q s skip h = refl
 plain_decided places q s i h = absurd cc
 
 -- a line that does nothing decides nothing
-plain_decisions : (p : Procedure) (q : ℕ) (s : State) → kind_at (graph_of p).nodes q ≡ Some Plain → decisions p q s ≡ []
+pub plain_decisions : (p : Procedure) (q : ℕ) (s : State) → kind_at (graph_of p).nodes q ≡ Some Plain → decisions p q s ≡ []
 unfolding decisions decision_at
 plain_decisions p q s h =
     let t = kind_there p q Plain h in
@@ -78,7 +79,7 @@ takes_halt : (p : Procedure) (q : ℕ) (s : State) (w : Way) (ws : List Way) (x 
 takes_halt p q s w ws x h i a e n none same =
     let to : (step p q s).next ≡ next.Halted x = ap (λ (t : Step). t.next) e ∙ n in
     let is : x ≡ h = cc in
-    (0, ap (λ y. w.path ++ path_of y) none ∙ append-nil w.path ∙ sym (way_decides p q s w i a), subst (λ y. (step p q s).next ≡ next.Halted y) is to)
+    (0, (ap (λ y. w.path ++ path_of y) none ∙ append-nil w.path ∙ sym (way_decides p q s w i a), subst (λ y. (step p q s).next ≡ next.Halted y) is to))
 
 -- a step to the next line, by a way whose literals hold
 takes_more : (p : Procedure) (q r : ℕ) (s : State) (w : Way) (ws : List Way) (h : Halt) → IsIn (line_paths p q) w → all_hold w.literals s ≡ true → step p q s ≡ led_by w s
@@ -86,13 +87,13 @@ takes_more : (p : Procedure) (q r : ℕ) (s : State) (w : Way) (ws : List Way) (
 takes_more p q r s w ws h i a e n t =
     let same : state_behind w.change s ≡ (step p q s).state = sym (ap (λ (x : Step). x.state) e) in
     let rest = subst (λ x. TakesDecisions p t.0 r x (path_of ws) h) same t.1 in
-    (suc t.0, r, path_of ws, n, ap (λ y. y ++ path_of ws) (sym (way_decides p q s w i a)), rest)
+    (suc t.0, (r, path_of ws, n, ap (λ y. y ++ path_of ws) (sym (way_decides p q s w i a)), rest))
 
 both_true : (a b : Bool) → (a && b) ≡ true → (a ≡ true) × (b ≡ true)
 both_true true b h = (refl, h)
 both_true false b h = absurd cc
 
-behind_in_range : (p : Procedure) (q : ℕ) (s : State) (w : Way) → IsChecked p → IsInRange p.places s → step p q s ≡ led_by w s → IsInRange p.places (state_behind w.change s)
+pub behind_in_range : (p : Procedure) (q : ℕ) (s : State) (w : Way) → IsChecked p → IsInRange p.places s → step p q s ≡ led_by w s → IsInRange p.places (state_behind w.change s)
 behind_in_range p q s w c r e = subst (λ (x : Step). IsInRange p.places x.state) e (step-kept p q s c r).in_range
 
 -- the ways of leading assertions that follow one another
@@ -133,8 +134,8 @@ head_takes p loops q ws s h law c regions r l f = by_lines (leading_of loops q) 
         let e = plain_step p q s b.0 in
         let t' : Takes p (q + 1) s (path_of ws) h = subst (λ x. Takes p x s (path_of ws) h) b.1 t in
         let same : s ≡ (step p q s).state = sym (ap (λ (x : Step). x.state) e) in
-        (suc t'.0, q + 1, path_of ws, ap (λ (x : Step). x.next) e, ap (λ y. y ++ path_of ws) (sym (plain_decisions p q s b.0)),
-          subst (λ x. TakesDecisions p t'.0 (q + 1) x (path_of ws) h) same t'.1)
+        (suc t'.0, (q + 1, path_of ws, ap (λ (x : Step). x.next) e, ap (λ y. y ++ path_of ws) (sym (plain_decisions p q s b.0)),
+          subst (λ x. TakesDecisions p t'.0 (q + 1) x (path_of ws) h) same t'.1))
 
     by_lines : (lines : List ℕ) → leading_of loops q ≡ lines → Leads p q lines ws (stop.Halted h) → Takes p q s (path_of ws) h
     by_lines [] e m = absurd (let x = m.1 in cc)
@@ -181,7 +182,7 @@ path_taken p loops pc s r h law c regions range k e holds =
   where
     fit : fits k.ways s ≡ true
     fit =
-        ap (fits k.ways) (sym (state_own (length p.places) s range.size)) ∙ sym (along-holds k.ways (own_values (length p.places)) s)
+        ap (fits k.ways) (sym (own_state s (length p.places) range.size)) ∙ sym (along-holds k.ways (own_values (length p.places)) s)
         ∙ ap (λ (x : PlainRow). all_hold x.literals s) (sym k.row) ∙ holds
 
 -- literals whose forms all hold in a state hold there

@@ -1,6 +1,7 @@
 -- What holds of the runs and the threats of each checked procedure in which no cycle is twice entered.
-use Rattle.std.specs.Prelude.{◌≡◌, ℕ, List}
+use Rattle.std.specs.Prelude.{◌≡◌, ◌↔◌, ℕ, List}
 use Rattle.il_core.specs.Evaluation.{State}
+use Rattle.il_core.specs.Input.{IsInput}
 use Rattle.il_core.specs.LineGraph.{IsIn}
 use Rattle.il_core.specs.Procedure.{Procedure}
 use Rattle.il_core.specs.Run.{HasNoBadRun}
@@ -9,11 +10,13 @@ use Rattle.control_flow.specs.declared.control.LoopInfo.{LoopInfo}
 use Rattle.region_paths.specs.Region.{AreRegions, first_lines}
 use Rattle.region_paths.specs.Listing.{RegionPath}
 use Rattle.region_paths.specs.Laws.{BeginsRegion}
-use Rattle.path_inputs.specs.Least.{Meets, IsPlainlyRefuted}
+use Rattle.path_inputs.specs.Least.{Meets, IsPlainlyRefuted, IsLeastInput}
+use Rattle.path_inputs.specs.Laws.{AreInCore}
 use Rattle.compliance.specs.Threat.{IsThreat, forms_of}
-use Rattle.compliance.specs.Verdict.{TakesPath}
+use Rattle.compliance.specs.Verdict.{TakesPath, IsFirstLoose, HasVerdict}
 use Rattle.compliance.specs.Safe.{AreThreatsOf, IsSafeWhereRefuted}
 use Rattle.compliance.specs.declared.threat.Threat.{Threat}
+use Rattle.compliance.specs.declared.threat.Verdict.{Verdict}
 
 -- each threat of each region is plainly refuted
 abbrev pub ThreatsAreRefuted : Procedure → List LoopInfo → Type 0
@@ -28,7 +31,21 @@ abbrev pub RefutedListsMeanNoBadRun : Type 0
 RefutedListsMeanNoBadRun = (p : Procedure) (loops : List LoopInfo) (ts : List Threat) → IsChecked p → AreRegions p loops → AreThreatsOf p loops (first_lines loops) ts
     → IsSafeWhereRefuted p loops ts
 
--- an input that meets each literal of a threat takes it
-abbrev pub MetThreatsAreTaken : Type 0
-MetThreatsAreTaken = (p : Procedure) (loops : List LoopInfo) (pc : ℕ) (r : RegionPath) (s : State) → BeginsRegion p loops pc → IsThreat p loops pc r
-    → Meets p.places pc (forms_of r) s → TakesPath p pc s r
+-- an input takes a threat exactly where it meets each literal of it
+abbrev pub ThreatsAreTakenWhereMet : Type 0
+ThreatsAreTakenWhereMet = (p : Procedure) (loops : List LoopInfo) (pc : ℕ) (r : RegionPath) (s : State) → BeginsRegion p loops pc → IsThreat p loops pc r
+    → IsInput p.places pc s → Meets p.places pc (forms_of r) s ↔ TakesPath p pc s r
+
+-- where each literal of a threat is easy and in the core, its least input takes it
+abbrev pub LeastInputsTakeThreats : Type 0
+LeastInputsTakeThreats = (p : Procedure) (loops : List LoopInfo) (pc : ℕ) (r : RegionPath) (s : State) → BeginsRegion p loops pc → IsThreat p loops pc r
+    → AreInCore (forms_of r) → IsLeastInput p.places pc (forms_of r) s → TakesPath p pc s r
+
+-- where the least input of a threat does not take it, there is a first literal that is hard, or an easy `/=` outside the core
+abbrev pub OpenThreatsAreLoose : Type 0
+OpenThreatsAreLoose = (p : Procedure) (loops : List LoopInfo) (pc : ℕ) (r : RegionPath) (s : State) → BeginsRegion p loops pc → IsThreat p loops pc r
+    → IsLeastInput p.places pc (forms_of r) s → (TakesPath p pc s r → ⊥) → (i : ℕ) × IsFirstLoose (forms_of r) i
+
+-- no path has two verdicts
+abbrev pub OneVerdict : Type 0
+OneVerdict = (p : Procedure) (pc : ℕ) (r : RegionPath) (v w : Verdict) → HasVerdict p pc r v → HasVerdict p pc r w → v ≡ w

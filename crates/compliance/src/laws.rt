@@ -1,19 +1,35 @@
 //! Laws of runs and threats, as contracts of functions that do nothing.
-ghost use Rattle.compliance.specs.Laws.{RefutedThreatsMeanNoBadRun, RefutedListsMeanNoBadRun, MetThreatsAreTaken};
+ghost use Rattle.compliance.specs.Laws.{RefutedThreatsMeanNoBadRun, RefutedListsMeanNoBadRun, ThreatsAreTakenWhereMet, OneVerdict};
+
+use region_paths::{inputs_take_one_path, one_listing};
+use test_graph::ways_are_steps;
 
 /// Where each threat of each region is plainly refuted, no run from the precondition faults, fails an assertion or ends
 /// outside the postcondition, however long it is, also where it never ends.
 pub fn refuted_threats_mean_no_bad_run()
     ensures { RefutedThreatsMeanNoBadRun }
-{}
+{
+    ways_are_steps();
+    inputs_take_one_path();
+}
 
 /// The same of a list of the threats of all regions within their size, where no region is past it.
 pub fn refuted_lists_mean_no_bad_run()
     ensures { RefutedListsMeanNoBadRun }
-{}
+{
+    one_listing();
+    refuted_threats_mean_no_bad_run();
+}
 
-/// An input of a region that meets each literal of a threat takes it: the lines stepped take its decisions and stop as
-/// it does.
-pub fn met_threats_are_taken()
-    ensures { MetThreatsAreTaken }
+/// An input of a region takes a threat, so that the lines stepped take its decisions and stop as it does, exactly where
+/// it meets each literal of the threat.
+pub fn threats_are_taken_where_met()
+    ensures { ThreatsAreTakenWhereMet }
+{
+    ways_are_steps();
+}
+
+/// No path has two verdicts.
+pub fn one_verdict()
+    ensures { OneVerdict }
 {}

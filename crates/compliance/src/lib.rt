@@ -8,5 +8,8 @@
 mod laws;
 mod threat;
 
-pub use laws::{met_threats_are_taken, refuted_lists_mean_no_bad_run, refuted_threats_mean_no_bad_run};
+pub use laws::{
+    one_verdict, refuted_lists_mean_no_bad_run, refuted_threats_mean_no_bad_run,
+    threats_are_taken_where_met,
+};
 pub use threat::{Threat, Verdict};
