@@ -1,11 +1,11 @@
 -- An input of a line is a state within the ranges that meets the constraints on OLD copies.
-use Rattle.std.proofs.Common.{◌≡◌, ◌⊎◌, ◌∙◌, inl, inr, refl, sym, ap, subst, ℕ, zero, suc, ◌<◌, ◌≤◌, ◌+◌, ◌-◌, ◌^◌, ℤ, pos, ◌-ℤ◌, ◌≤ℤ◌, Bool, true, false, not, ◌&&◌, cond, List, [], ◌∷◌, ◌++◌, length, map, Option, Some, slice_get, unsigned_abs, arith}
+use Rattle.std.proofs.Common.{◌≡◌, ◌∙◌, inl, inr, refl, sym, ap, subst, ℕ, zero, suc, ◌<◌, ◌≤◌, ◌+◌, ◌-◌, ◌≤ℤ◌, Bool, true, false, ◌&&◌, cond, List, [], ◌∷◌, length, map, Some, slice_get, arith}
 use Rattle.std.specs.Prelude.{filter}
 use Rattle.std.proofs.lemmas.Int.{ints}
 use Rattle.std.proofs.lemmas.List.{length-map, length-append}
-use Rattle.std.proofs.lemmas.Option.{same_Some, none-some, slice_get_within}
+use Rattle.std.proofs.lemmas.Option.{same_Some, none-some}
 use Rattle.il_core.specs.Evaluation.{State, value_at}
-use Rattle.il_core.specs.Run.{IsInRange, IsInitial, is_inout, is_variable, variable_count, inout_from}
+use Rattle.il_core.specs.Run.{IsInRange, is_inout, is_variable, variable_count, inout_from}
 use Rattle.il_core.specs.Input.{IsInput}
 use Rattle.il_core.specs.Checked.{is_copied, old_copy, AreInOrder}
 use Rattle.il_core.specs.Places.{AreCheckedPlaces}

@@ -1,21 +1,20 @@
 -- The core of a list of forms grows with the list, and a split of the core implies it.
-use Rattle.std.proofs.Common.{◌≡◌, ◌≢◌, ◌⊎◌, ◌∙◌, inl, inr, refl, sym, ap, subst, ℕ, zero, suc, ◌≤◌, ◌+◌, ℤ, Bool, true, false, not, ◌&&◌, cond, List, [], ◌∷◌, ◌++◌, length, take, drop, Option, Some, slice_get, arith}
+use Rattle.std.proofs.Common.{◌≡◌, ◌⊎◌, ◌∙◌, inl, inr, refl, sym, ap, ℕ, zero, suc, ◌≤◌, ℤ, Bool, true, false, not, ◌&&◌, cond, List, [], ◌∷◌, ◌++◌, length, take, Some, slice_get, arith}
 use Rattle.std.specs.Prelude.{filter, int_lt}
 use Rattle.std.specs.Ordering.{int_eq}
 use Rattle.std.proofs.lemmas.Int.{ints}
 use Rattle.std.proofs.lemmas.List.Elements.{filter-append}
-use Rattle.il_core.specs.Evaluation.{State, compares}
+use Rattle.il_core.specs.Evaluation.{State}
 use Rattle.il_core.specs.LineGraph.{IsIn}
 use Rattle.il_core.specs.declared.line.Place.{Place}
-use Rattle.il_core.specs.declared.operator.Relation.{Relation}
 use Rattle.il_core.specs.declared.operator.Relation.TheVariants.{Eq, Ne, Lt, Le, Gt, Ge}
-use Rattle.sym_simplify.specs.Form.{Form, form_value}
+use Rattle.sym_simplify.specs.Form.{form_value}
 use Rattle.sym_simplify.specs.Literal.{LiteralForm, always, never, keep, form_holds}
 use Rattle.sym_simplify.specs.Easy.{is_easy, is_unequal}
-use Rattle.path_inputs.specs.Core.{is_plain, is_disequality, core_disequalities, other_disequalities, core, IsLoose, with_relation, sided, all_sided, split_by}
-use Rattle.path_inputs.specs.Least.{Meets, HasNoInput, IsPlainlyRefuted, IsLeastInput}
+use Rattle.path_inputs.specs.Core.{is_plain, is_disequality, core_disequalities, core, IsLoose, sided, all_sided, split_by}
+use Rattle.path_inputs.specs.Least.{Meets, IsPlainlyRefuted, IsLeastInput}
 use Rattle.path_inputs.specs.Laws.{AreInCore}
-use Rattle.path_inputs.proofs.Members.{in-left, in-right, in-either, in-take, in-take_more, in-take_or_drop, in-take_all, in-filter, from-filter}
+use Rattle.path_inputs.proofs.Members.{in-left, in-right, in-either, in-take, in-take_more, in-take_all, in-filter, from-filter}
 
 both-true : (a b : Bool) → a ≡ true → b ≡ true → (a && b) ≡ true
 both-true a b e f = rw (e, f) refl
@@ -40,9 +39,9 @@ easy-either f e = by_test (is_unequal f) refl
 pub core-more : (fs more : List LiteralForm) (f : LiteralForm) → IsIn (core fs) f → IsIn (core (fs ++ more)) f
 core-more fs more f h = elim (in-either (filter is_plain fs) (core_disequalities fs) f h) [
   | inl k ↦ in-left (filter is_plain (fs ++ more)) (core_disequalities (fs ++ more)) f
-        (rw (filter-append is_plain fs more) (in-left (filter is_plain fs) (filter is_plain more) f k))
+      (rw (filter-append is_plain fs more) (in-left (filter is_plain fs) (filter is_plain more) f k))
   | inr k ↦ in-right (filter is_plain (fs ++ more)) (core_disequalities (fs ++ more)) f
-        (rw (filter-append is_disequality fs more) (in-take_more 8 (filter is_disequality fs) (filter is_disequality more) f k))
+      (rw (filter-append is_disequality fs more) (in-take_more 8 (filter is_disequality fs) (filter is_disequality more) f k))
 ]
 
 -- inputs of more forms are inputs of fewer
@@ -126,14 +125,17 @@ module _ (places : List Place) (pc : ℕ) (fs : List LiteralForm) (s : State) wh
   -- an input of the core meets one of its splits
   pub core-split : Meets places pc (core fs) s → (choice : List Bool) × (length choice ≡ length (core_disequalities fs)) × Meets places pc (split_by choice fs) s
   core-split m =
-      let some = sides-of (core_disequalities fs) s unequal-in_core (λ g k. m.each g (in-right (filter is_plain fs) (core_disequalities fs) g k)) in
-      (some.0, some.1, record {
-        input = m.input;
-        each = λ f k. elim (in-either (filter is_plain fs) (all_sided some.0 (core_disequalities fs)) f k) [
-          | inl i ↦ m.each f (in-left (filter is_plain fs) (core_disequalities fs) f i)
-          | inr i ↦ some.2 f i
-        ];
-      })
+      let some = sides-of (core_disequalities fs) s unequal-in_core (λ g k. m.each g (in-right (filter is_plain fs) (core_disequalities fs) g k)) in (
+        some.0,
+        some.1,
+        record {
+          input = m.input;
+          each = λ f k. elim (in-either (filter is_plain fs) (all_sided some.0 (core_disequalities fs)) f k) [
+            | inl i ↦ m.each f (in-left (filter is_plain fs) (core_disequalities fs) f i)
+            | inr i ↦ some.2 f i
+          ];
+        },
+      )
 
   all-in_core : AreInCore fs → (f : LiteralForm) → IsIn fs f → IsIn (core fs) f
   all-in_core c f k = elim (easy-either f (c.easy f k)) [

@@ -1,12 +1,10 @@
 -- The constraints of kept forms over n places are constraints over n unknowns, with small bounds.
-use Rattle.std.proofs.Common.{◌≡◌, ◌≢◌, ◌⊎◌, ◌∙◌, inl, inr, refl, sym, ap, subst, ℕ, ◌<◌, ◌≤◌, ◌+◌, ◌^◌, ℤ, pos, negsuc, neg_ℤ, ◌+ℤ◌, ◌-ℤ◌, ◌<ℤ◌, List, [], ◌∷◌, Option, Some, None, unsigned_abs, arith}
-use Rattle.std.specs.Int.{int_div_euclid}
+use Rattle.std.proofs.Common.{◌≡◌, ◌≢◌, inl, inr, refl, subst, ℕ, ◌<◌, ◌≤◌, ◌^◌, ℤ, pos, negsuc, neg_ℤ, ◌+ℤ◌, ◌-ℤ◌, ◌<ℤ◌, [], ◌∷◌, Option, Some, None, unsigned_abs, arith}
 use Rattle.std.proofs.lemmas.Int.{ints}
 use Rattle.il_core.specs.LineGraph.{IsIn}
 use Rattle.il_core.specs.declared.operator.Relation.{Relation}
 use Rattle.il_core.specs.declared.operator.Relation.TheVariants.{Eq, Ne, Lt, Le, Gt, Ge}
 use Rattle.il_core.proofs.Integers.{quotient-abs}
-use Rattle.sym_simplify.specs.Form.{Form}
 use Rattle.sym_simplify.specs.Literal.{LiteralForm, always, never, keep}
 use Rattle.sym_simplify.specs.Places.{HasLiteralPlacesBelow}
 use Rattle.sym_simplify.specs.Easy.{multiple_of, IsKept}
@@ -15,8 +13,8 @@ use Rattle.difference.specs.Constraints.{IsUnknown, IsGiven}
 use Rattle.difference.specs.Answers.{IsSplit}
 use Rattle.difference.specs.declared.constraint.Constraint.{Constraint}
 use Rattle.difference.specs.declared.constraint.Split.{Split}
-use Rattle.path_inputs.specs.Bounding.{at_most, at_least, either_side, relation_reading, multiple_reading, constraints_in, splits_in, constraints_of, splits_of}
-use Rattle.path_inputs.proofs.Readings.{IsMultiple, multiple-is}
+use Rattle.path_inputs.specs.Bounding.{at_most, at_least, relation_reading, multiple_reading, constraints_in, splits_in, constraints_of, splits_of}
+use Rattle.path_inputs.proofs.Readings.{multiple-is}
 
 module _ (n : ℕ) (m : Multiple) (above : pos 0 <ℤ m.coefficient) (left : m.left < n) (right : IsUnknown n m.right) where
   not-zero : m.coefficient ≢ pos 0

@@ -1,5 +1,5 @@
 -- What a form asks of the places is met exactly where the form holds, if it is easy and no disequality.
-use Rattle.std.proofs.Common.{◌≡◌, ◌≢◌, ◌⊎◌, ◌∙◌, inl, inr, refl, sym, ap, subst, ℕ, ◌<◌, ◌≤◌, ◌^◌, ℤ, pos, negsuc, neg_ℤ, ◌+ℤ◌, ◌-ℤ◌, ◌*ℤ◌, ◌≤ℤ◌, ◌<ℤ◌, Bool, true, false, not, ◌&&◌, cond, List, [], ◌∷◌, ◌++◌, Option, Some, None, is_some, arith}
+use Rattle.std.proofs.Common.{◌≡◌, ◌∙◌, inl, inr, refl, sym, ap, subst, ℕ, ◌<◌, ℤ, pos, negsuc, neg_ℤ, ◌+ℤ◌, ◌-ℤ◌, ◌*ℤ◌, ◌≤ℤ◌, ◌<ℤ◌, Bool, true, false, not, ◌&&◌, cond, [], ◌∷◌, Option, Some, None, is_some, arith}
 use Rattle.std.specs.Prelude.{int_lt, int_le}
 use Rattle.std.specs.Int.{int_div_euclid}
 use Rattle.std.specs.Ordering.{int_eq}
@@ -12,17 +12,17 @@ use Rattle.il_core.specs.declared.operator.Relation.{Relation}
 use Rattle.il_core.specs.declared.operator.Relation.TheVariants.{Eq, Ne, Lt, Le, Gt, Ge}
 use Rattle.il_core.proofs.Integers.{product-swap}
 use Rattle.il_core.proofs.Quotients.{most-multiple, multiple-most, least-multiple, multiple-least}
-use Rattle.sym_simplify.specs.Form.{Form, constant, part, Factor, place, pair, form_value}
+use Rattle.sym_simplify.specs.Form.{Form, constant, part, place, pair, form_value}
 use Rattle.sym_simplify.specs.Normal.{constant_of}
 use Rattle.sym_simplify.specs.Literal.{LiteralForm, always, never, keep, form_holds, BeginsAboveZero}
-use Rattle.sym_simplify.specs.Places.{HasFormPlacesBelow, HasLiteralPlacesBelow}
-use Rattle.sym_simplify.specs.Easy.{is_easy, is_other_than, is_unequal, single, double, double_of, multiple_of, IsKept}
+use Rattle.sym_simplify.specs.Places.{HasFormPlacesBelow}
+use Rattle.sym_simplify.specs.Easy.{is_easy, is_other_than, is_unequal, single, double, multiple_of, IsKept}
 use Rattle.sym_simplify.specs.declared.easy.Multiple.{Multiple}
 use Rattle.sym_simplify.proofs.NormValues.{sum-times}
 use Rattle.difference.specs.Constraints.{IsUnknown, Meets}
 use Rattle.difference.specs.Constraints as difference
 use Rattle.difference.specs.declared.constraint.Constraint.{Constraint}
-use Rattle.path_inputs.specs.Core.{is_plain, is_disequality}
+use Rattle.path_inputs.specs.Core.{is_plain}
 use Rattle.path_inputs.specs.Bounding.{at_most, at_least, relation_reading, multiple_reading, constraints_in, constraints_of}
 
 -- the places of a multiple, the one less the other

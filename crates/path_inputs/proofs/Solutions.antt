@@ -1,6 +1,6 @@
 -- Inputs that meet forms are solutions of their constraints, so what the solver answers decides which lists are plainly refuted and which
 -- input is least.
-use Rattle.std.proofs.Common.{◌≡◌, ◌⊎◌, ◌∙◌, inl, inr, refl, sym, ap, subst, append_assoc, ℕ, suc, ◌<◌, ◌≤◌, ℤ, Bool, true, false, List, [], ◌∷◌, ◌++◌, length, map, take, drop, Option, Some, None, slice_get, All, arith}
+use Rattle.std.proofs.Common.{◌≡◌, ◌∙◌, inl, inr, refl, sym, ap, subst, append_assoc, ℕ, suc, ◌<◌, ℤ, Bool, true, false, List, [], ◌∷◌, ◌++◌, length, map, take, drop, Option, Some, None, All, arith}
 use Rattle.std.specs.Prelude.{filter, MatchOption}
 use Rattle.std.specs.List.{flat_map}
 use Rattle.std.proofs.lemmas.List.{length-map}
@@ -17,12 +17,12 @@ use Rattle.difference.specs.declared.constraint.Constraint.{Constraint}
 use Rattle.difference.specs.declared.constraint.Split.{Split}
 use Rattle.path_inputs.specs.Core.{is_plain, is_disequality, core_disequalities, other_disequalities, core, sided, all_sided, split_by}
 use Rattle.path_inputs.specs.Least.{Meets, HasNoInput, IsPlainlyRefuted, IsLeastInput}
-use Rattle.path_inputs.specs.Bounding.{range_of, copies, constraints_of, splits_of, all_constraints, IsJudged, AreJudged, IsAnswered}
+use Rattle.path_inputs.specs.Bounding.{range_of, copies, constraints_of, splits_of, all_constraints, AreJudged, IsAnswered}
 use Rattle.path_inputs.proofs.Members.{in-left, in-right, in-either, in-take, in-drop, in-take_or_drop, in-filter, from-filter, in-place, place-of}
 use Rattle.path_inputs.proofs.Elements.{all-members, members-all, in-flat, from-flat}
 use Rattle.path_inputs.proofs.Cores.{second-true, side-holds, side-of, split-core, core-split}
 use Rattle.path_inputs.proofs.Readings.{form-met, met-form}
-use Rattle.path_inputs.proofs.Splits.{side, HasSplit, has-split, sided-kept, disequality-splits, split-length, split-drop, core-unequal, all-unequal, first-splits, split-constraints, from-sided, AreDisequalities}
+use Rattle.path_inputs.proofs.Splits.{side, HasSplit, has-split, sided-kept, disequality-splits, split-length, split-drop, core-unequal, all-unequal, first-splits, split-constraints, from-sided}
 use Rattle.path_inputs.proofs.Copies.{range-within, within-range, input-copies, input-range, copies-input}
 
 -- one more among what all meet

@@ -1,21 +1,20 @@
 -- The constraints and the splits of forms: those of a split's forms are those of the plain forms and the chosen sides.
-use Rattle.std.proofs.Common.{◌≡◌, ◌⊎◌, ◌∙◌, inl, inr, refl, sym, ap, subst, ℕ, zero, suc, ◌≤◌, ◌+◌, ◌^◌, ℤ, pos, ◌+ℤ◌, ◌-ℤ◌, Bool, true, false, not, ◌&&◌, cond, List, [], ◌∷◌, ◌++◌, length, take, drop, Option, Some, None, is_some, slice_get, arith}
+use Rattle.std.proofs.Common.{◌≡◌, ◌∙◌, inl, inr, refl, sym, ap, ℕ, zero, suc, ℤ, Bool, true, false, ◌&&◌, cond, List, [], ◌∷◌, ◌++◌, length, take, drop, Option, Some, None, is_some}
 use Rattle.std.specs.Prelude.{filter}
 use Rattle.std.specs.List.{flat_map}
 use Rattle.std.proofs.lemmas.Grind.{flat_map-append}
-use Rattle.std.proofs.lemmas.Option.{same_Some, none-some}
 use Rattle.il_core.specs.LineGraph.{IsIn}
 use Rattle.il_core.specs.declared.operator.Relation.{Relation}
 use Rattle.il_core.specs.declared.operator.Relation.TheVariants.{Eq, Ne, Lt, Le, Gt, Ge}
 use Rattle.sym_simplify.specs.Form.{Form}
 use Rattle.sym_simplify.specs.Literal.{LiteralForm, always, never, keep}
-use Rattle.sym_simplify.specs.Easy.{is_easy, is_unequal, multiple_of, IsKept}
+use Rattle.sym_simplify.specs.Easy.{multiple_of, IsKept}
 use Rattle.sym_simplify.specs.declared.easy.Multiple.{Multiple}
 use Rattle.difference.specs.Answers.{sides}
 use Rattle.difference.specs.declared.constraint.Constraint.{Constraint}
 use Rattle.difference.specs.declared.constraint.Split.{Split}
 use Rattle.path_inputs.specs.Core.{is_plain, is_disequality, core_disequalities, sided, all_sided, split_by}
-use Rattle.path_inputs.specs.Bounding.{at_most, at_least, either_side, multiple_reading, constraints_in, splits_in, constraints_of, splits_of}
+use Rattle.path_inputs.specs.Bounding.{either_side, multiple_reading, constraints_in, splits_in, constraints_of, splits_of}
 use Rattle.path_inputs.proofs.Members.{in-take, from-filter}
 
 abbrev pub side : Bool → Split → Constraint

@@ -1,6 +1,6 @@
 -- Easy forms as constraints on the differences of places: a bound on a multiple is a bound on the places, divided by the factor and rounded to
 -- the side that keeps the same whole numbers. And the places of a procedure as ranges, with each OLD copy equal to its variable at line 0.
-use Rattle.std.specs.Prelude.{◌≡◌, ◌⊎◌, ℕ, zero, suc, ◌+◌, ℤ, pos, negsuc, neg_ℤ, ◌+ℤ◌, ◌-ℤ◌, Bool, true, false, Option, Some, None, List, [], ◌∷◌, ◌++◌, length, take, drop, flat_map, slice_get}
+use Rattle.std.specs.Prelude.{◌≡◌, ◌⊎◌, ℕ, zero, suc, ℤ, pos, negsuc, neg_ℤ, ◌+ℤ◌, ◌-ℤ◌, Bool, true, false, Option, Some, None, List, [], ◌∷◌, ◌++◌, length, take, drop, flat_map, slice_get}
 use Rattle.std.specs.Int.{int_div_euclid}
 use Rattle.il_core.specs.Run.{inout_from, variable_count}
 use Rattle.il_core.specs.declared.line.Place.{Place}

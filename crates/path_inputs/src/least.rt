@@ -167,14 +167,7 @@ fn solve_all(
         SplitSolved::Least(values) => values,
         SplitSolved::Unmet => return Ok(None),
     };
-    if judge_all(
-        alloc,
-        ranges,
-        constraints,
-        tried,
-        values.as_slice(),
-        others,
-    )? {
+    if judge_all(alloc, ranges, constraints, tried, values.as_slice(), others)? {
         Ok(Some(values))
     } else {
         Ok(None)

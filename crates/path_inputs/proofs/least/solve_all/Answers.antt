@@ -1,5 +1,5 @@
 -- The first eight splits have the least solution, and the others are judged.
-use Rattle.std.proofs.Common.{◌≡◌, true, false, drop, inr, subst}
+use Rattle.std.proofs.Common.{true, false, drop, inr, subst}
 use Rattle.difference.specs.Answers.{IsFirst}
 use Rattle.path_inputs.specs.Bounding.{AreJudged}
 use Rattle.path_inputs.proofs.least.solve_all.Goals as goal
@@ -17,4 +17,4 @@ pub returns-else-branch : goal.returns-else-branch
 returns-else-branch c =
     let judged : AreJudged c.args.ranges.now c.args.constraints.now c.first_and_others.result.0.now c.first_and_others.result.1.now false = rw c.if-branch.false at c.in_ok-judge_all.ensures in
     inr (subst (λ ss. AreJudged c.args.ranges.now c.args.constraints.now ss (drop 8 c.args.splits.now) false) c.first_and_others.ensures.first
-        (subst (λ ss. AreJudged c.args.ranges.now c.args.constraints.now c.first_and_others.result.0.now ss false) c.first_and_others.ensures.others judged))
+    (subst (λ ss. AreJudged c.args.ranges.now c.args.constraints.now c.first_and_others.result.0.now ss false) c.first_and_others.ensures.others judged))

@@ -1,6 +1,6 @@
 -- The copies are as many as the INOUT variables, and stand last.
-use Rattle.std.proofs.Common.{◌≡◌, ◌∙◌, ◌-◌, ℕ, List, length, ap, subst, IfOk, arith}
-use Rattle.il_core.specs.Run.{variable_count, inout_from}
+use Rattle.std.proofs.Common.{◌≡◌, ◌∙◌, ◌-◌, List, length, ap, subst, IfOk, arith}
+use Rattle.il_core.specs.Run.{variable_count}
 use Rattle.difference.specs.declared.constraint.Constraint.{Constraint}
 use Rattle.path_inputs.specs.Bounding.{equal_from}
 use Rattle.path_inputs.proofs.Copies.{first-copy, copies-few}
@@ -23,5 +23,5 @@ pub returns : goal.returns
 returns c =
     let f = first-copy c.args.places.now (length c.args.places.now - length c.args.variables.now) c.requires.places (ap (λ n. length c.args.places.now - n) (ap length c.requires.variables)) in
     subst (λ (cs : List Constraint). IfOk c.equal_from.result (λ v. v.items ≡ cs))
-        (ap (λ n. equal_from n c.args.variables.now) f ∙ ap (equal_from (variable_count c.args.places.now)) c.requires.variables)
-        c.equal_from.ensures
+    (ap (λ n. equal_from n c.args.variables.now) f ∙ ap (equal_from (variable_count c.args.places.now)) c.requires.variables)
+    c.equal_from.ensures
