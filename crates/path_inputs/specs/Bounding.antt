@@ -1,13 +1,13 @@
 -- Easy forms as constraints on the differences of places: a bound on a multiple is a bound on the places, divided by the factor and rounded to
 -- the side that keeps the same whole numbers. And the places of a procedure as ranges, with each OLD copy equal to its variable at line 0.
-use Rattle.std.specs.Prelude.{◌≡◌, ◌⊎◌, ℕ, zero, suc, ◌+◌, ℤ, pos, negsuc, neg_ℤ, ◌+ℤ◌, ◌-ℤ◌, Bool, true, false, Option, Some, None, List, [], ◌∷◌, ◌++◌, length, take, drop, flat_map, slice_get}
+use Rattle.std.specs.Prelude.{◌≡◌, ◌⊎◌, ℕ, zero, suc, ℤ, pos, negsuc, neg_ℤ, ◌+ℤ◌, ◌-ℤ◌, Bool, true, false, Option, Some, None, List, [], ◌∷◌, ◌++◌, length, take, drop, flat_map, slice_get}
 use Rattle.std.specs.Int.{int_div_euclid}
 use Rattle.il_core.specs.Run.{inout_from, variable_count}
 use Rattle.il_core.specs.declared.line.Place.{Place}
 use Rattle.il_core.specs.declared.operator.Relation.{Relation}
 use Rattle.il_core.specs.declared.operator.Relation.TheVariants.{Eq, Ne, Lt, Le, Gt, Ge}
 use Rattle.difference.specs.Answers.{sides, IsUnmet, IsFirst}
-use Rattle.difference.specs.Constraints.{IsSolution}
+use Rattle.difference.specs.Constraints.{Meets, IsSolution}
 use Rattle.difference.specs.declared.constraint.Range64.{Range64}
 use Rattle.difference.specs.declared.constraint.Constraint.{Constraint}
 use Rattle.difference.specs.declared.constraint.Split.{Split}
@@ -94,6 +94,10 @@ copies places (suc pc) = []
 -- the constraints of an input that meets the plain ones of the forms
 abbrev pub all_constraints : List Place → ℕ → List LiteralForm → List Constraint
 all_constraints places pc fs = copies places pc ++ flat_map constraints_of fs
+
+-- values meet a side of the split
+abbrev pub MeetsEither : List ℤ → Split → Type 0
+MeetsEither vals s = Meets vals s.low ⊎ Meets vals s.high
 
 -- whether some solution meets a side of the split and of each other one
 abbrev pub IsJudged : List Range64 → List Constraint → List Split → Bool → Type 0

@@ -1,6 +1,6 @@
 -- What holds of each list of forms: what is plainly refuted stays so whatever follows; where each form is in the core, the least input meets
 -- them all; and where the least input does not meet them all, some form is hard, or an easy `/=` outside the core.
-use Rattle.std.specs.Prelude.{◌≡◌, ◌≤◌, ℕ, Bool, true, List, ◌++◌, length, filter}
+use Rattle.std.specs.Prelude.{◌≡◌, ◌≤◌, ℕ, true, List, ◌++◌, length, filter}
 use Rattle.il_core.specs.Evaluation.{State}
 use Rattle.il_core.specs.LineGraph.{IsIn}
 use Rattle.il_core.specs.declared.line.Place.{Place}
