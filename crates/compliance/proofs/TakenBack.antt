@@ -1,6 +1,6 @@
 -- An input that takes a long path meets each literal of it: at each line the decisions of one way alone begin what is left of the path's.
 use Rattle.std.proofs.Common.{◌≡◌, ◌⊎◌, inl, inr, refl, sym, ap, ◌∙◌, subst, ℕ, zero, suc, ◌+◌, Bool, true, false, ◌&&◌, Some, List, [], ◌∷◌, ◌++◌, map, length, append-nil}
-use Rattle.std.specs.Prelude.{filter, if◌then◌else◌}
+use Rattle.std.specs.Prelude.{filter}
 use Rattle.il_core.specs.Evaluation.{State}
 use Rattle.il_core.specs.Input.{IsInput}
 use Rattle.il_core.specs.LineGraph.{IsIn}
@@ -32,9 +32,10 @@ use Rattle.region_paths.proofs.Fits.{fits, along-holds}
 use Rattle.path_inputs.specs.Least.{Meets}
 use Rattle.compliance.specs.Threat.{IsThreat, forms_of}
 use Rattle.compliance.specs.Verdict.{TakesDecisions, TakesPath}
+use Rattle.compliance.proofs.Members.{from_filter}
 use Rattle.compliance.proofs.QuietLines.{IsQuiet, quiet_step, plain_step}
 use Rattle.compliance.proofs.Openings.{leading_lists, leading_quiet}
-use Rattle.compliance.proofs.NoBadRun.{forms_hold, from_filter, input_in_range}
+use Rattle.compliance.proofs.NoBadRun.{forms_hold, input_in_range}
 use Rattle.compliance.proofs.Following.{FollowOn, leads_from}
 use Rattle.compliance.proofs.Taking.{path_of, along-path, plain_decisions, behind_in_range}
 
@@ -74,15 +75,6 @@ same_way (ask c met unmet) v w a b i j g = by_sides (sides v i) (sides w j) (λ 
 way_there : (d : Decision) (s : State) → IsIn (filter (λ (w : Way). all_hold w.literals s) (ways_of d)) (way_taken d s)
 way_there d s = subst (λ l. IsIn l (way_taken d s)) (sym (one_way d s)) (inl refl)
 
-filtered_holds : {X : Type 0} (p : X → Bool) (xs : List X) (x : X) → IsIn (filter p xs) x → p x ≡ true
-filtered_holds p [] x i = absurd i
-filtered_holds p (y ∷ xs) x i = by_test (p y) refl i (filtered_holds p xs x)
-  where
-    by_test : (t : Bool) → p y ≡ t → IsIn (if t then y ∷ filter p xs else filter p xs) x → (IsIn (filter p xs) x → p x ≡ true) → p x ≡ true
-    by_test true e (inl k) later = ap p (sym k) ∙ e
-    by_test true e (inr j) later = later j
-    by_test false e j later = later j
-
 cancel : (a x y : List Bool) → a ++ x ≡ a ++ y → x ≡ y
 cancel [] x y e = e
 cancel (b ∷ a) x y e = cancel a x y (tail_same b (a ++ x) (a ++ y) e)
@@ -97,9 +89,9 @@ unfolding line_paths decisions
 way_held p q s w left rest i e =
     let t = way_there (decision_at p q) s in
     let k = from_filter (λ (x : Way). all_hold x.literals s) (ways_of (decision_at p q)) (way_taken (decision_at p q) s) t in
-    let f = same_way (decision_at p q) w (way_taken (decision_at p q) s) left rest i k e in
+    let f = same_way (decision_at p q) w (way_taken (decision_at p q) s) left rest i k.0 e in
     record {
-      holds = ap (λ (x : Way). all_hold x.literals s) f ∙ filtered_holds (λ (x : Way). all_hold x.literals s) (ways_of (decision_at p q)) (way_taken (decision_at p q) s) t;
+      holds = ap (λ (x : Way). all_hold x.literals s) f ∙ k.1;
       same = cancel w.path left rest (e ∙ ap (λ (x : Way). x.path ++ rest) (sym f));
     }
 
