@@ -1,13 +1,12 @@
 -- The leading assertions of a head follow one another: the first is the head, or stands behind it, and each other one behind the one before.
-use Rattle.std.proofs.Common.{◌≡◌, ◌⊎◌, inl, inr, refl, sym, ap, ◌∙◌, subst, ℕ, zero, suc, ◌+◌, ◌<◌, ◌≤◌, Some, List, [], ◌∷◌, length, arith}
+use Rattle.std.proofs.Common.{◌≡◌, inl, inr, refl, sym, ◌∙◌, subst, ℕ, suc, ◌+◌, ◌<◌, ◌≤◌, Some, List, [], ◌∷◌, arith}
 use Rattle.std.specs.List.{AllPairs}
 use Rattle.std.proofs.lemmas.List.Kept.{AllPairs-from_increasing}
 use Rattle.il_core.specs.LineGraph.{IsIn}
 use Rattle.flow_graph.specs.Reached.{Lists}
 use Rattle.flow_graph.specs.declared.graph.Node.{Node}
-use Rattle.flow_graph.specs.declared.graph.NodeKind.{NodeKind}
 use Rattle.flow_graph.specs.declared.graph.NodeKind.TheVariants.{Assertion, Plain}
-use Rattle.control_flow.specs.Loop.{kind_at, BeginsAt, IsLeading}
+use Rattle.control_flow.specs.Loop.{BeginsAt, IsLeading}
 use Rattle.compliance.proofs.Members.{place_of}
 
 -- lines that follow one another, the first of which is line a

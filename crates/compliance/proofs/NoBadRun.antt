@@ -1,15 +1,15 @@
 -- Where each threat is plainly refuted, no run halts badly: from an input of a region that has passed the region's opening, a piece of the run
 -- comes to such an input of another region, or halts well.
-use Rattle.std.proofs.Common.{◌≡◌, ◌≢◌, ◌⊎◌, inl, inr, refl, sym, ap, ◌∙◌, subst, ℕ, zero, suc, ◌+◌, ◌<◌, Bool, true, false, ◌&&◌, ◌||◌, eqb, eqb-true, Some, None, Option, List, [], ◌∷◌, ◌++◌, map, length, take, arith, if◌then◌else◌}
+use Rattle.std.proofs.Common.{◌≡◌, ◌≢◌, inl, inr, refl, sym, ap, ◌∙◌, subst, ℕ, zero, suc, ◌+◌, ◌<◌, Bool, true, false, ◌||◌, eqb, eqb-true, List, [], ◌∷◌, map, length}
 use Rattle.std.specs.Prelude.{filter, slice_get}
 use Rattle.std.proofs.lemmas.Bool.{and_parts}
 use Rattle.std.proofs.lemmas.Option.{slice_get_within, same_Some}
 use Rattle.il_core.specs.Evaluation.{State}
 use Rattle.il_core.specs.Input.{IsInput}
 use Rattle.il_core.specs.LineGraph.{IsIn, HasArc, heads_at}
-use Rattle.il_core.specs.Machine.{Step, goes, step}
+use Rattle.il_core.specs.Machine.{Step, step}
 use Rattle.il_core.specs.Procedure.{Procedure}
-use Rattle.il_core.specs.Run.{IsInRange, IsInitial, HasNoBadRun, is_bad}
+use Rattle.il_core.specs.Run.{IsInRange, HasNoBadRun, is_bad}
 use Rattle.il_core.specs.Checked.{IsChecked}
 use Rattle.il_core.specs.declared.line.Halt.{Halt}
 use Rattle.il_core.specs.declared.line.Next.{Next}
@@ -18,27 +18,27 @@ use Rattle.il_core.specs.declared.line.Place.{Place}
 use Rattle.il_core.specs.declared.line.Stop.{Stop}
 use Rattle.il_core.specs.declared.line.Stop.TheVariants as stop
 use Rattle.il_core.proofs.StepKeeps.{IsKept, step-kept}
-use Rattle.flow_graph.specs.Graph.{graph_of, arc_to}
+use Rattle.flow_graph.specs.Graph.{arc_to}
 use Rattle.flow_graph.proofs.Formed.{graph_formed}
 use Rattle.flow_graph.proofs.LineArcs.{Joins-from_HasArc}
 use Rattle.flow_graph.proofs.Members.{IsIn-append_cases}
 use Rattle.control_flow.specs.Control.{heads_of}
 use Rattle.control_flow.specs.declared.control.LoopInfo.{LoopInfo}
-use Rattle.line_machine.specs.Cut.{IsMarked, EndsAt, GoesOnAt, Reaches}
+use Rattle.line_machine.specs.Cut.{IsMarked, EndsAt, Reaches}
 use Rattle.sym_terms.specs.Identity.{own_values}
 use Rattle.sym_terms.specs.Substitution.{state_of}
 use Rattle.sym_terms.specs.Comparison.{Comparison, comparison_holds}
 use Rattle.sym_simplify.specs.Literal.{LiteralForm, form_holds}
 use Rattle.sym_simplify.proofs.LiteralForms.{literal_keeps}
-use Rattle.test_graph.specs.Way.{Way, line_paths, all_hold, led_by, state_behind}
+use Rattle.test_graph.specs.Way.{Way, all_hold, state_behind}
 use Rattle.sym_terms.proofs.Composed.{own_state}
 use Rattle.test_graph.specs.Laws.{WaysAreSteps}
 use Rattle.region_paths.specs.Region.{AreRegions, is_head, first_lines, leading_of, head_marks}
-use Rattle.region_paths.specs.Chain.{IsLongChain, IsChainTo, Onward, Leads, Passes}
-use Rattle.region_paths.specs.PlainRow.{PlainRow, along}
+use Rattle.region_paths.specs.Chain.{IsLongChain, Onward, Leads, Passes}
+use Rattle.region_paths.specs.PlainRow.{PlainRow}
 use Rattle.region_paths.specs.Listing.{RegionPath, IsLongPath}
 use Rattle.region_paths.specs.Stepping.{StepsTo, StepsOn, LongStepsTo, TakesOne}
-use Rattle.region_paths.specs.Laws.{BeginsRegion, InputsTakeOnePath}
+use Rattle.region_paths.specs.Laws.{InputsTakeOnePath}
 use Rattle.region_paths.proofs.Fits.{fits, along-holds}
 use Rattle.region_paths.proofs.Marks.{length-head_marks, mark_of}
 use Rattle.path_inputs.specs.Core.{is_plain, is_disequality, core, core_disequalities}

@@ -1,8 +1,7 @@
 -- A long path that halts stays within the opening of its region exactly where it passes no more lines than the opening has.
-use Rattle.std.proofs.Common.{◌≡◌, ◌⊎◌, inl, inr, refl, sym, ap, ◌∙◌, subst, ℕ, zero, suc, ◌+◌, ◌≤◌, Bool, true, false, cond, eqb, Option, Some, List, [], ◌∷◌, length, slice_get, arith}
-use Rattle.std.specs.Prelude.{◌↔◌}
+use Rattle.std.proofs.Common.{◌≡◌, ◌⊎◌, inl, inr, refl, sym, ap, ◌∙◌, subst, ℕ, ◌+◌, ◌≤◌, Bool, true, false, cond, Option, Some, List, [], ◌∷◌, length, slice_get, arith}
 use Rattle.std.proofs.lemmas.Bool.Decides.{eqb_tells}
-use Rattle.il_core.specs.LineGraph.{IsIn, HasArc, heads_of, heads_at}
+use Rattle.il_core.specs.LineGraph.{IsIn, heads_of, heads_at}
 use Rattle.il_core.specs.Procedure.{Procedure, Instruction, end_if, loop, label, skip, assert}
 use Rattle.il_core.specs.declared.line.Halt.{Halt}
 use Rattle.il_core.specs.declared.line.Next.{Next}
@@ -10,7 +9,7 @@ use Rattle.il_core.specs.declared.line.Next.TheVariants as next
 use Rattle.il_core.specs.declared.line.Stop.TheVariants as stop
 use Rattle.flow_graph.specs.Graph.{graph_of, kind_of}
 use Rattle.flow_graph.specs.declared.graph.NodeKind.TheVariants.{Assertion, Plain}
-use Rattle.control_flow.specs.Loop.{kind_at, IsAssertion, BeginsAt}
+use Rattle.control_flow.specs.Loop.{IsAssertion, BeginsAt}
 use Rattle.control_flow.specs.declared.control.LoopInfo.{LoopInfo}
 use Rattle.test_graph.specs.Way.{Way, line_paths}
 use Rattle.test_graph.specs.Laws.{WaysGoAlongArcs}
@@ -146,26 +145,26 @@ opening_run p loops pc regions = by_lines (leading_of loops pc) refl
         → IsRun p pc (opened_by pc (a ∷ lines))
     at_start a lines e start (inl b) f = elim (eqb_tells a pc) [
       | inl same ↦
-        subst (IsRun p pc) (sym (ap (λ t. cond t (a ∷ lines) (pc ∷ a ∷ lines)) same.0))
-        (record {
-          follow = subst (λ x. FollowOn x (a ∷ lines)) b.1 f;
-          quiet = λ q i. assertion_quiet p q (asserted q (subst (λ x. IsIn x q) (sym e) i));
-          asserted = λ q i. inr (asserted q (subst (λ x. IsIn x q) (sym e) i));
-        })
+          subst (IsRun p pc) (sym (ap (λ t. cond t (a ∷ lines) (pc ∷ a ∷ lines)) same.0))
+          (record {
+            follow = subst (λ x. FollowOn x (a ∷ lines)) b.1 f;
+            quiet = λ q i. assertion_quiet p q (asserted q (subst (λ x. IsIn x q) (sym e) i));
+            asserted = λ q i. inr (asserted q (subst (λ x. IsIn x q) (sym e) i));
+          })
       | inr other ↦ absurd (other.1 (f.0 ∙ b.1))
     ]
     at_start a lines e start (inr b) f = elim (eqb_tells a pc) [
       | inl same ↦ let s = same.1 in let g = f.0 in let d = b.1 in absurd (omega (arith, s, g, d))
       | inr other ↦
-        subst (IsRun p pc) (sym (ap (λ t. cond t (a ∷ lines) (pc ∷ a ∷ lines)) other.0))
-        (record {
-          follow = (refl, subst (λ x. FollowOn x (a ∷ lines)) b.1 f);
-          quiet = λ q i. elim i [
-            | inl same ↦ subst (IsQuiet p) same (plain_quiet p pc b.0)
-            | inr j ↦ assertion_quiet p q (asserted q (subst (λ x. IsIn x q) (sym e) j))
-          ];
-          asserted = λ q i. elim i [ inl same ↦ inl (sym same) | inr j ↦ inr (asserted q (subst (λ x. IsIn x q) (sym e) j)) ];
-        })
+          subst (IsRun p pc) (sym (ap (λ t. cond t (a ∷ lines) (pc ∷ a ∷ lines)) other.0))
+          (record {
+            follow = (refl, subst (λ x. FollowOn x (a ∷ lines)) b.1 f);
+            quiet = λ q i. elim i [
+              | inl same ↦ subst (IsQuiet p) same (plain_quiet p pc b.0)
+              | inr j ↦ assertion_quiet p q (asserted q (subst (λ x. IsIn x q) (sym e) j))
+            ];
+            asserted = λ q i. elim i [ inl same ↦ inl (sym same) | inr j ↦ inr (asserted q (subst (λ x. IsIn x q) (sym e) j)) ];
+          })
     ]
 
     by_lines : (lines : List ℕ) → leading_of loops pc ≡ lines → IsRun p pc (opened_by pc lines)

@@ -142,7 +142,7 @@ leads_back p head a (b ∷ lines) (w ∷ ws) (suc n) s h law c r k follow l t =
     let there : g.line ≡ a + 1 = line_is g.line (sym (ap (λ (x : Step). x.next) g.stepped ∙ g.next)) in
     fits_both w ws s g.holds
     (leads_back p head (a + 1) lines ws n (state_behind w.change s) h law c (behind_in_range p b s w c r g.stepped) (λ q i. k q (inr i)) follow.1 m
-      (subst (λ x. TakesDecisions p n x (state_behind w.change s) (path_of ws) h) there g.takes))
+    (subst (λ x. TakesDecisions p n x (state_behind w.change s) (path_of ws) h) there g.takes))
   where
     line_is : (q : ℕ) → next.At q ≡ (step p b s).next → q ≡ a + 1
     line_is q e = elim (quiet_step p b s (k b (inl refl))) [
@@ -158,9 +158,11 @@ plain_back p q (suc n) s path h e t =
     let g = plain_step p q s e in
     let f : next.At (q + 1) ≡ next.At t.0 = sym (ap (λ (x : Step). x.next) g) ∙ t.2 in
     let line : t.0 ≡ q + 1 = cc in
-    let same : t.1 ≡ path = sym (t.3 ∙ ap (λ x. x ++ t.1) (plain_decisions p q s e)) in
-    (n, subst (λ x. TakesDecisions p n x s path h) line
-      (subst (λ x. TakesDecisions p n t.0 s x h) same (subst (λ x. TakesDecisions p n t.0 x t.1 h) (ap (λ (x : Step). x.state) g) t.4)))
+    let same : t.1 ≡ path = sym (t.3 ∙ ap (λ x. x ++ t.1) (plain_decisions p q s e)) in (
+      n,
+      subst (λ x. TakesDecisions p n x s path h) line
+          (subst (λ x. TakesDecisions p n t.0 s x h) same (subst (λ x. TakesDecisions p n t.0 x t.1 h) (ap (λ (x : Step). x.state) g) t.4)),
+    )
 
 head_back : (p : Procedure) (loops : List LoopInfo) (q : ℕ) (ws : List Way) (n : ℕ) (s : State) (h : Halt) → WaysAreSteps → IsChecked p → AreRegions p loops → IsInRange p.places s
     → Leads p q (leading_of loops q) ws (stop.Halted h) → TakesDecisions p n q s (path_of ws) h → fits ws s ≡ true
