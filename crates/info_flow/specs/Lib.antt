@@ -2,4 +2,3 @@ pub mod Relevance
 pub mod Agreement
 pub mod Sources
 pub mod Growth
-pub mod Sample

@@ -22,6 +22,3 @@ mod sets;
 pub use flowing::flows;
 pub use laws::equal_values;
 pub use row::FlowRow;
-
-#[cfg(test)]
-mod tests;

@@ -13,6 +13,3 @@ mod stepping;
 pub use laws::{bounds_hold, division_is_euclidean, steps_stay_inside};
 pub use running::run_to_cut;
 pub use stepping::step;
-
-#[cfg(test)]
-mod tests;
