@@ -1,5 +1,6 @@
-use super::*;
+//! The first fault of a text by the rules of names, types, modes and ranges.
 use il_core::{Bound, Code, Form, List, Mode, Name, RawExpr, Refusal, Stmt, TypeUse};
+use il_types::first_refusal;
 use std::alloc::Global;
 use std::test::Fail;
 

@@ -1,6 +1,6 @@
 //! What no clause says: std's readers and writers behind the adapters, and each call that takes memory with ample memory.
 
-use crate::{
+use il_edge::{
     MemSink, MemSource, ReadEnd, Sink, StdSink, StdSource, SureSink, SureSource, read_all,
     write_all,
 };

@@ -1,6 +1,6 @@
 //! What no clause says: that the definitions mean the tokens of the text language, and that a call succeeds.
-use super::lex;
 use il_core::{Code, Keyword, Name, Symbol, TextEnd, TokenKind};
+use il_lexer::lex;
 use std::test::Fail;
 
 fn name(bytes: &[u8]) -> Result<TokenKind, Fail> {
