@@ -7,7 +7,7 @@ use il_core::{BinOp, Keyword, NoMemory, RawExpr, Relation, Symbol, Token, TokenK
 use std::alloc::Global;
 
 /// Why tokens gave no expression.
-#[derive(Clone, Copy, Debug, PartialEq, Eq)]
+#[derive(Clone, Copy, PartialEq, Eq)]
 pub(crate) enum ExpressionEnd {
     /// They are no expression.
     NoForm,
