@@ -1,3 +1,4 @@
 pub mod Integers
 pub mod BoundsHold
 pub mod StepKeeps
+pub mod Wrapped

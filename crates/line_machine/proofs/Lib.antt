@@ -1,3 +1,4 @@
+pub mod Four
 pub mod NarrowFits
 pub mod LineFitting
 pub mod Ways

@@ -104,7 +104,8 @@ impl Pool {
     pub fn are_same(&self, a: TermId, b: TermId) -> bool
         requires left { a.index < length self.now }
         requires right { b.index < length self.now }
-        ensures { IsTrue result ↔ (tree_at self.now a ≡ tree_at self.now b) }
+        ensures same { IsTrue result ↔ (tree_at self.now a ≡ tree_at self.now b) }
+        ensures equal { IsTrue result ↔ (a ≡ b) }
     {
         let _first = self.node(a);
         a == b
