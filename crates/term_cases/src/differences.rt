@@ -3,7 +3,9 @@ ghost use Rattle.std.specs.Prelude.{IsTrue, All, length};
 ghost use Rattle.difference.specs.Constraints.{IsUnknown, IsRange, IsGiven};
 ghost use Rattle.difference.specs.Answers.{IsSplit};
 
-use difference::{Constraint, Edge, Range64, Solved, Split, SplitSolved, refute, solve, solve_splits};
+use difference::{
+    Constraint, Edge, Range64, Solved, Split, SplitSolved, refute, solve, solve_splits,
+};
 use std::process::Abort;
 use std::test::Fail;
 
