@@ -1,5 +1,5 @@
 -- What a normal term is a multiple of, by the parts that hold it.
-use Rattle.std.proofs.Common.{◌≡◌, ◌∙◌, refl, sym, ap, ◌<◌, ◌≤◌, ℤ, List, [], ◌∷◌, length, get_or, Option, Some, None, arith}
+use Rattle.std.proofs.Common.{◌≡◌, ◌∙◌, refl, sym, ap, ◌<◌, ◌≤◌, ℤ, List, [], ◌∷◌, length, get_or, Option, None, arith}
 use Rattle.std.specs.Option.{option_map}
 use Rattle.sym_simplify.specs.declared.normal.Normal.{Normal, out-Normal}
 use Rattle.sym_simplify.specs.declared.normal.Part.{Part}

@@ -1,5 +1,5 @@
 -- The places of a normal term and of a literal's form are places of the terms that they come from.
-use Rattle.std.proofs.Common.{◌≡◌, refl, ◌<◌, zero, suc, ℕ, ℤ, pos, negsuc, ◌+ℤ◌, Bool, true, false, if◌then◌else◌, List, [], ◌∷◌, ◌++◌, map, int_lt}
+use Rattle.std.proofs.Common.{ℕ, ℤ, pos, negsuc, ◌+ℤ◌, Bool, true, false, if◌then◌else◌, List, [], ◌∷◌, ◌++◌, map, int_lt}
 use Rattle.std.specs.Ordering.{int_eq}
 use Rattle.std.specs.declared.cmp.Ordering.{Ordering}
 use Rattle.std.specs.declared.cmp.Ordering.TheVariants.{Less, Equal, Greater}
@@ -7,11 +7,11 @@ use Rattle.il_core.specs.Evaluation.{compares}
 use Rattle.il_core.specs.declared.operator.Relation.{Relation}
 use Rattle.sym_terms.specs.Tree.{Tree, number, variable, sum, product, quotient, remainder}
 use Rattle.sym_terms.specs.Substitution.{HasPlacesBelow}
-use Rattle.sym_simplify.specs.Form.{Kind, over, rest, Form, constant, part, Factor, place, pair}
+use Rattle.sym_simplify.specs.Form.{Kind, over, rest, Form, constant, part, Factor}
 use Rattle.sym_simplify.specs.Order.{form_cmp, factor_cmp}
 use Rattle.sym_simplify.specs.Merge.{scale_parts}
 use Rattle.sym_simplify.specs.Norm.{Summand, alone, often, scaled, before, beside, insert, shift, normal_of, lesser_first, product_of, division_of, summands, norm}
-use Rattle.sym_simplify.specs.Literal.{LiteralForm, always, never, mirrored, without_constant, kept, compared, difference}
+use Rattle.sym_simplify.specs.Literal.{always, never, mirrored, without_constant, kept, compared, difference}
 use Rattle.sym_simplify.specs.Places.{HasFormPlacesBelow, HasFactorPlacesBelow, HasLiteralPlacesBelow}
 
 module _ (k : ℕ) where
