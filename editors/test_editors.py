@@ -142,23 +142,31 @@ class Code(unittest.TestCase):
                 json.loads(read(HERE, "vscode", path))
         json.loads(read(HERE, "vscode", "tasks.json"))
 
-    def test_the_problem_matcher_reads_what_assess_check_writes(self):
-        pattern = self.package["problemPatterns"][0]
-        groups = [pattern[it] for it in ("file", "line", "column", "severity", "code", "message")]
+    def test_the_problem_matchers_read_what_assess_check_writes(self):
+        patterns = {f"${it['name']}": it for it in self.package["problemPatterns"]}
         for line, wanted in MESSAGES:
             with self.subTest(line=line):
-                match = re.match(pattern["regexp"], line)
-                self.assertEqual(match and tuple(match[it] for it in groups), wanted)
+                found = []
+                for matcher in self.package["problemMatchers"]:
+                    pattern = patterns[matcher["pattern"]]
+                    match = re.match(pattern["regexp"], line)
+                    if match:
+                        parts = [match[pattern[it]] if it in pattern else None for it in ("file", "line", "column", "code", "message")]
+                        found.append((matcher["severity"], *parts))
+                self.assertEqual(found, [wanted] if wanted else [])
 
 
-# Lines as assess check writes them, with the file, line, column, severity, code and message that an editor is to read.
+# Lines as assess check writes them, with the severity, file, line, column, code and message that an editor is to read.
 MESSAGES = [
-    ("a.mal:12:3: E05: statement has no form", ("a.mal", "12", "3", None, "E05", "statement has no form")),
-    ("dir/a b.mal:2:1: E09: name unknown: x", ("dir/a b.mal", "2", "1", None, "E09", "name unknown: x")),
-    ("a.mal:7:1: warning: y is read before it is written", ("a.mal", "7", "1", "warning", None, "y is read before it is written")),
-    ("a.mal:7: line 3 is unreachable", ("a.mal", "7", None, None, None, "line 3 is unreachable")),
-    ("    level = full;", None),
-    ("    ^", None),
+    ("a.mal:12:3: E05: statement has no form", ("error", "a.mal", "12", "3", "E05", "statement has no form")),
+    ("   12 |   level = full;", None),
+    ("      |   ^", None),
+    ("      = hint: an assignment is written with :=, as in level := ..", None),
+    ("dir/a b.mal:2:1: E09: name unknown: x", ("error", "dir/a b.mal", "2", "1", "E09", "name unknown: x")),
+    ("a.mal: refused, 1 fault told", None),
+    ("v.mal:11:1: finding: fill: OUT mode is never read", ("warning", "v.mal", "11", "1", None, "fill: OUT mode is never read")),
+    ("v.mal: fill: fact: 14 lines, 1 loop (line 15)", None),
+    ("v.mal: not analysed: whether a run ends", None),
 ]
 
 
@@ -212,10 +220,10 @@ class Vim(unittest.TestCase):
                 "compiler malpas",
                 f"cgetfile {said}",
                 "let g:out = [&makeprg]",
-                "for q in getqflist() | call add(g:out, bufname(q.bufnr) . '|' . q.lnum . '|' . q.col . '|' . q.text) | endfor",
+                "for q in getqflist() | call add(g:out, q.type . '|' . bufname(q.bufnr) . '|' . q.lnum . '|' . q.col . '|' . q.text) | endfor",
             )
         self.assertEqual(lines[0], "assess check %:S")
-        wanted = [f"{it[0]}|{it[1]}|{it[2] or 0}|{it[5]}" for _, it in MESSAGES if it]
+        wanted = ["|".join([it[0][0].upper(), it[1], it[2], it[3], it[5]]) for _, it in MESSAGES if it]
         self.assertEqual(lines[1:], wanted)
 
 

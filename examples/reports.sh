@@ -1,3 +1,4 @@
+# shellcheck shell=bash disable=SC2154
 # What the two scripts of this folder do with a text and the report beside it. A script sets here, this folder, before it reads this file.
 
 top=$(cd "$here/.." && pwd)

@@ -1,3 +1,4 @@
+# shellcheck shell=bash disable=SC2154
 # What the scripts know of the program: where it stands once it is built, which crates it is built from, and whether it is older than
 # their sources. A script sets top, the folder of the repository, before it reads this file.
 

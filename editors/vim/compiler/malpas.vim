@@ -7,9 +7,6 @@ endif
 let current_compiler = "malpas"
 
 CompilerSet makeprg=assess\ check\ %:S
-CompilerSet errorformat=%f:%l:%c:\ E%n:\ %m,
-		       \%f:%l:%c:\ %trror:\ %m,
-		       \%f:%l:%c:\ %tarning:\ %m,
-		       \%f:%l:%c:\ %m,
-		       \%f:%l:\ %m,
+CompilerSet errorformat=%E%f:%l:%c:\ E%n:\ %m,
+		       \%W%f:%l:%c:\ finding:\ %m,
 		       \%-G%.%#
