@@ -1,3 +1,3 @@
-pub mod Drawn
-pub mod Sample
+pub mod Formed
+pub mod SampleChecked
 pub mod Smallest

@@ -118,7 +118,7 @@ fn ending(alloc: Global) -> Result<Vec<Line>, NoMemory>
     Ok(lines)
 }
 
-#[tactic(auto, using(crate::proofs::Sample::four_parts))]
+#[tactic(auto, using(crate::proofs::SampleChecked::four_parts))]
 fn lines(alloc: Global) -> Result<List<Line>, NoMemory>
     ensures { IfOk result (λ lines. map instruction_of lines ≡ sample.lines) }
 {

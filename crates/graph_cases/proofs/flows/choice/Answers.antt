@@ -1,5 +1,5 @@
 use Rattle.std.proofs.Common.{refl}
-use Rattle.graph_cases.proofs.Drawn.{well_formed_told, has_places_told}
+use Rattle.graph_cases.proofs.Formed.{well_formed_told, has_places_told}
 use Rattle.graph_cases.proofs.flows.choice.Goals as goal
 
 pub answered-requires-clause-formed : goal.answered-requires-clause-formed

@@ -1,5 +1,5 @@
 use Rattle.std.proofs.Common.{refl}
-use Rattle.graph_cases.proofs.Drawn.{well_formed_answer}
+use Rattle.graph_cases.proofs.Formed.{well_formed_answer}
 use Rattle.graph_cases.proofs.paths.with_one_arm.Goals as goal
 
 pub returns : goal.returns

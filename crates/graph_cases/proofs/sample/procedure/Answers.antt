@@ -1,4 +1,4 @@
-use Rattle.graph_cases.proofs.Sample.{checked_like}
+use Rattle.graph_cases.proofs.SampleChecked.{checked_like}
 use Rattle.graph_cases.proofs.sample.procedure.Goals as goal
 
 pub new-requires : goal.new-requires

@@ -1,5 +1,5 @@
 use Rattle.std.proofs.Common.{refl}
-use Rattle.graph_cases.proofs.Drawn.{well_formed_as, has_places_as}
+use Rattle.graph_cases.proofs.Formed.{well_formed_as, has_places_as}
 use Rattle.graph_cases.proofs.uses.a_second_write_overwrites.Goals as goal
 
 pub order_of-requires : goal.order_of-requires
