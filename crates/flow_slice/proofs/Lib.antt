@@ -2,3 +2,4 @@ pub mod Nearest
 pub mod Mirrored
 pub mod SlicedLines
 pub mod SliceRuns
+pub mod Layers

@@ -7,6 +7,11 @@
 //! same state, an ending run of the slice with the same final value.
 #![tactic(auto)]
 
+mod copying;
+mod distance;
 mod laws;
+mod side;
+mod sliced;
 
 pub use laws::{slices_are_checked, slices_end_alike};
+pub use sliced::{Fixed, SlicedProc};
