@@ -3,3 +3,5 @@ pub mod Mirrored
 pub mod SlicedLines
 pub mod SliceRuns
 pub mod Layers
+pub mod FixedTests
+pub mod Slices

@@ -3,3 +3,4 @@ pub mod Slice
 pub mod Laws
 pub mod Distance
 pub mod Layer
+pub mod Sides

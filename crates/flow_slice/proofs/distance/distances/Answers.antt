@@ -1,9 +1,7 @@
-use Rattle.std.proofs.Common.{rules, ◌≡◌, ◌<◌, ◌+◌, suc, ap, sym, ◌∙◌, [], length, arith}
+use Rattle.std.proofs.Common.{rules, ◌≡◌, ◌<◌, ◌+◌, ◌∙◌, [], length, arith}
 use Rattle.std.proofs.lemmas.List.{length-replicate, nil_from_length}
-use Rattle.il_core.specs.LineGraph.{IsIn}
 use Rattle.info_flow.specs.Growth.{is_relevant}
-use Rattle.flow_slice.specs.Layer.{Spread}
-use Rattle.flow_slice.proofs.Layers.{layered_start, layered_on, layered_end, tails_below, entry_within}
+use Rattle.flow_slice.proofs.Layers.{layered_start, layered_on, layered_end, tails_below}
 use Rattle.flow_slice.proofs.distance.distances.Goals as goal
 
 pub loop-alloc-init : goal.loop-alloc-init

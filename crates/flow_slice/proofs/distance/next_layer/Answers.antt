@@ -1,5 +1,5 @@
-use Rattle.std.proofs.Common.{◌≡◌, ap, sym, subst, ◌∙◌, ℕ, length, get_or, arith}
-use Rattle.flow_graph.specs.Search.{AreBelow, row_of}
+use Rattle.std.proofs.Common.{◌≡◌, sym, subst, ◌∙◌, ℕ, length, get_or}
+use Rattle.flow_graph.specs.Search.{AreBelow}
 use Rattle.flow_graph.proofs.Members.{IsIn-get_or}
 use Rattle.flow_slice.proofs.Layers.{behind_start, behind_more}
 use Rattle.flow_slice.proofs.distance.next_layer.Goals as goal
