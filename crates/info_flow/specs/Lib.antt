@@ -3,4 +3,3 @@ pub mod Agreement
 pub mod Sources
 pub mod Variable
 pub mod Growth
-pub mod Sample

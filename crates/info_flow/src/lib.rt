@@ -25,6 +25,3 @@ pub use flowing::flows;
 pub use laws::equal_values;
 pub use relevance::{RelevantSets, relevant};
 pub use row::FlowRow;
-
-#[cfg(test)]
-mod tests;
