@@ -1,7 +1,7 @@
 use il_core::{CheckedProc, List};
 
 /// A test that a slice fixes to one truth value.
-#[derive(Clone, Copy, Debug, PartialEq, Eq)]
+#[derive(Clone, Copy)]
 pub struct Fixed {
     /// The test's line.
     pub line: usize,
@@ -10,7 +10,7 @@ pub struct Fixed {
 }
 
 /// The slice of a procedure for one variable.
-#[derive(Debug, Drop)]
+#[derive(Drop)]
 pub struct SlicedProc {
     /// The slice itself, a procedure with the same name, places and arcs.
     pub proc: CheckedProc,
