@@ -15,7 +15,11 @@ SlicesAreChecked = (p slice : Procedure) (relevant : ℕ → Bool) → IsChecked
 abbrev pub EndsWith : Procedure → State → ℕ → State → Type 0
 EndsWith p s v other = (last : State) × Ends p s last × (value_at last v ≡ value_at other v)
 
--- the slice ends where the procedure does, with the same value of the variable whose sets of relevant lines and of needed places are closed
+-- where a run of one procedure ends, a run of the other from the same state ends with the same value of place v
+abbrev pub EndAlike : Procedure → Procedure → ℕ → Type 0
+EndAlike p slice v = (s last : State) → Ends p s last → EndsWith slice s v last
+
+-- so do a procedure and its slice for closed sets of lines that are relevant to a variable and of places that they need
 abbrev pub SlicesEndAlike : Type 0
-SlicesEndAlike = (p slice : Procedure) (v : ℕ) (relevant : ℕ → Bool) (needs : ℕ → ℕ → Bool) (s last : State) → IsChecked p
-    → IsClosed (graph_of p) v relevant needs → IsSlice p relevant slice → Ends p s last → EndsWith slice s v last
+SlicesEndAlike = (p slice : Procedure) (v : ℕ) (relevant : ℕ → Bool) (needs : ℕ → ℕ → Bool) → IsChecked p → IsClosed (graph_of p) v relevant needs
+    → IsSlice p relevant slice → EndAlike p slice v

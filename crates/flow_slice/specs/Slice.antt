@@ -1,10 +1,15 @@
 -- A slice keeps the assignments and tests of a set of relevant lines: every other assignment and every assertion becomes SKIP, and every other test is fixed to the side that is nearer to relevant lines.
-use Rattle.std.specs.Prelude.{◌≡◌, ◌↔◌, ℕ, Bool, true, false, Some, [], ◌∷◌, length, slice_get, if◌then◌else◌}
+use Rattle.std.specs.Prelude.{◌≡◌, ◌↔◌, ℕ, Bool, true, false, Some, [], ◌∷◌, map, length, slice_get, if◌then◌else◌}
+use Rattle.il_core.specs.LineGraph.{IsIn}
 use Rattle.il_core.specs.Expression.{Expression, truth}
 use Rattle.il_core.specs.Procedure.{Procedure, Instruction, pre, assign, if_true, otherwise, end_if, loop, end_loop, exit, exit_when, label, goto, skip, assert, return, end_procedure}
+use Rattle.il_core.specs.Checked.{NamedProcedure, procedure_of}
 use Rattle.flow_graph.specs.declared.graph.FlowGraph.{FlowGraph}
 use Rattle.flow_graph.specs.Graph.{Joins, graph_of, heads_from}
+use Rattle.flow_graph.specs.Reached.{IsReached, Lists}
 use Rattle.info_flow.specs.Relevance.{IsTest}
+use Rattle.flow_slice.specs.declared.sliced.Fixed.{Fixed}
+use Rattle.flow_slice.specs.declared.sliced.SlicedProc.{SlicedProc}
 use Rattle.flow_slice.specs.Nearer.{IsNearer}
 
 -- the truth value to which the test at line k is fixed: FALSE exactly where the line that its false arc enters is nearer to
@@ -42,3 +47,11 @@ pub record IsSlice (p : Procedure) (relevant : ℕ → Bool) (slice : Procedure)
   pub places : slice.places ≡ p.places
   pub size : length slice.lines ≡ length p.lines
   pub lines : (k : ℕ) (i : Instruction) → slice_get p.lines k ≡ Some i → slice_get slice.lines k ≡ Some (sliced (relevant k) (taken k) i)
+
+-- what the call answers for a procedure: its slice under the same name, and, ascending, the reachable relevant lines and the reachable tests that are fixed
+pub record IsSliced (p : NamedProcedure) (relevant : ℕ → Bool) (answer : SlicedProc) : Type 0 where
+  pub name : answer.proc.name ≡ p.name
+  pub slice : IsSlice (procedure_of p) relevant (procedure_of answer.proc)
+  pub keep : Lists (λ k. IsReached (graph_of (procedure_of p)).arcs k × (relevant k ≡ true)) answer.keep
+  pub fixed : Lists (λ k. IsReached (graph_of (procedure_of p)).arcs k × IsTest (graph_of (procedure_of p)).nodes k × (relevant k ≡ false)) (map (λ f. f.line) answer.fixed)
+  pub sides : (f : Fixed) → IsIn answer.fixed f → IsFixedTo (graph_of (procedure_of p)) relevant f.line f.taken

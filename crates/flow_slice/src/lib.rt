@@ -7,6 +7,15 @@
 //! same state, an ending run of the slice with the same final value.
 #![tactic(auto)]
 
+mod copying;
+mod distance;
+mod fixing;
 mod laws;
+mod lines;
+mod side;
+mod sliced;
+mod slicing;
 
 pub use laws::{slices_are_checked, slices_end_alike};
+pub use sliced::{Fixed, SlicedProc};
+pub use slicing::slice;
