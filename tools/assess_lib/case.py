@@ -10,7 +10,7 @@ from assess_lib.outline import Outline, Procedure, outline_of
 from assess_lib.report import Refusal
 from assess_lib.source import Position, SourceText
 from assess_lib.statements import Statement, statement_at, statements_of
-from assess_lib.tokens import Kind, Token, tokens_of
+from assess_lib.tokens import Token, tokens_of
 
 
 class MendedText:
@@ -85,9 +85,9 @@ class Case:
         return next((each for each in self.tokens if each.first <= self.refusal.place < each.after), None)
 
     @property
-    def in_comment(self) -> bool:
-        """Whether the fault's place lies in a comment."""
-        return self.token is not None and self.token.kind is Kind.COMMENT
+    def letter(self) -> str:
+        """The character at the fault's place, or nothing at the text's end."""
+        return self.text.letters[self.refusal.place : self.refusal.place + 1]
 
     def line(self, place: int) -> int:
         """The line of the file in which the byte at `place` stands."""

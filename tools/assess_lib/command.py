@@ -8,6 +8,7 @@ from typing import NoReturn, Optional, Sequence
 
 from assess_lib import VERSION
 from assess_lib.check import check
+from assess_lib.page import write_page
 from assess_lib.program import NoProgram, Status, find_program
 
 _ABOUT = "Runs malpas on texts and says what it found: for an editor, as a page, or for a folder."
@@ -52,6 +53,8 @@ def _run(words: argparse.Namespace) -> int:
     program = find_program(words.program)
     if words.word == "check":
         return check(words.files, program, sys.stdout, sys.stderr)
+    if words.word == "page":
+        return write_page(words.file, program, sys.stdout, sys.stderr)
     raise AssertionError(words.word)
 
 

@@ -38,8 +38,15 @@ class Faults:
 
 def _fault(case: Case, further: bool) -> Fault:
     """The fault of a case."""
-    statement = case.statement.text if case.statement and not case.in_comment else ""
-    return Fault(case.refusal, case.text.position(case.refusal.place), statement, hints_of(case), further)
+    return Fault(case.refusal, case.text.position(case.refusal.place), _statement(case), hints_of(case), further)
+
+
+def _statement(case: Case) -> str:
+    """The statement at fault on one line, as it is written; nothing where the fault lies in bytes or a comment."""
+    statement = case.statement
+    if statement is None or case.refusal.code in ("E01", "E02") or case.letter in ("[", "]"):
+        return ""
+    return " ".join(case.text.letters[statement.first : statement.after].split())
 
 
 def find_faults(source: SourceText, first: Refusal, run: Callable[[bytes], Outcome]) -> Faults:

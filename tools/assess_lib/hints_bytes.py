@@ -69,12 +69,24 @@ def other_comment(case: Case) -> Optional[str]:
     return None
 
 
+def other_comment_end(letters: str, place: int) -> int:
+    """The place behind a comment of another language that begins at `place`, or `place` where none does."""
+    if letters.startswith("//", place) or letters.startswith("#", place):
+        end = letters.find("\n", place)
+        return len(letters) if end < 0 else end
+    if letters.startswith("/*", place):
+        return max(letters.find("*/", place) + 2, place)
+    return place
+
+
 def sign(case: Case) -> Optional[str]:
     """A sign of other languages."""
     letters = case.text.letters
     place = case.refusal.place
     if letters[place : place + 2] == "!=":
         return "not equal is written /="
+    if other_comment(case):
+        return None
     return _SIGNS.get(letters[place : place + 1])
 
 

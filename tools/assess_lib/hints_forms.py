@@ -65,6 +65,12 @@ def _ends_expression(token: Token) -> bool:
     return token.kind in (Kind.NUMBER, Kind.NAME) or token.text in (")", "TRUE", "FALSE")
 
 
+def _goes_on(case: Case) -> bool:
+    """Whether the statement at fault holds another one behind a missing `;` or a THEN."""
+    statement = case.statement
+    return statement is not None and ("THEN" in map(str.upper, statement.words) or swallowed(case, statement) is not None)
+
+
 def missing_semicolon(case: Case) -> Optional[str]:
     """A statement that goes on where another one begins."""
     statement = case.statement
@@ -106,7 +112,7 @@ def foreign_word(case: Case) -> Optional[str]:
 def alone(case: Case) -> Optional[str]:
     """More words behind a statement that is one word."""
     words = _words(case)
-    if len(words) < 2 or words[0] not in ("ELSE", "ENDIF", "LOOP", "ENDLOOP", "SKIP", "ENDPROC", "FINISH", "RETURN"):
+    if len(words) < 2 or _goes_on(case) or words[0] not in ("ELSE", "ENDIF", "LOOP", "ENDLOOP", "SKIP", "ENDPROC", "FINISH", "RETURN"):
         return None
     if words[0] == "RETURN":
         return "RETURN has no value: assign the OUT variables, then write RETURN;"
@@ -122,6 +128,8 @@ def assignment_sign(case: Case) -> Optional[str]:
         return ":= is one sign, without a space inside"
     if words[:1] in (["CONST"], ["TYPE"]) and (":=" in words or ":" in words):
         return f"{words[0]} is written with =, as in {words[0]} name = .."
+    if _goes_on(case):
+        return None
     if words[:1] and words[0] in CONDITIONED and ":=" in words:
         return "a comparison is written with =, an assignment is a statement of its own"
     if words.count(":=") > 1:
@@ -141,6 +149,9 @@ def relation_sign(case: Case) -> Optional[str]:
         ("*", "*"): "there are no powers: write a product",
         ("+", "+"): "write x := x + 1;",
         ("+", ":="): "write x := x + 1;",
+        ("+", "="): "write x := x + 1;",
+        ("-", "="): "write x := x - 1;",
+        ("-", "-"): "a comment is written [ .. ], and a minus inside an expression stands in parentheses",
     }
     words = _words(case)
     return next((told[pair] for pair in zip(words, words[1:]) if pair in told), None)
@@ -168,7 +179,7 @@ def name_of_declaration(case: Case) -> Optional[str]:
         return f"{words[1]} is a keyword, so it is no name"
     if declares and len(words) == 1:
         return f"{words[0]} needs a name"
-    if declares and words[0] in MODES and words[2:3] != [":"]:
+    if declares and words[0] in MODES and words[2:3] not in ([":"], [","]):
         return f"a declaration has a colon and a type, as in {words[0]} x : 0 .. 9;"
     return None
 
@@ -177,13 +188,14 @@ def chained(case: Case) -> Optional[str]:
     """A comparison of a comparison."""
     depth = 0
     compared: dict[int, bool] = {}
-    for word in _words(case):
+    words = _words(case)
+    for before, word in zip([""] + words, words):
         depth += (word == "(") - (word == ")")
-        if word in RELATIONS:
+        if word in RELATIONS and before not in RELATIONS:
             if compared.get(depth):
                 return "comparisons do not chain: write a <= b AND b <= c"
             compared[depth] = True
-        elif word in ("AND", "OR", "NOT", "(", ",", ":="):
+        elif word.upper() in ("AND", "OR", "NOT", "(", ",", ":="):
             compared[depth] = False
     return None
 

@@ -11,6 +11,7 @@ from typing import Optional
 
 from assess_lib.blocks import CLOSERS, open_blocks
 from assess_lib.case import Case
+from assess_lib.hints_bytes import other_comment_end
 from assess_lib.hints_forms import swallowed
 from assess_lib.order import Sort, Stage, first_break, sort_of
 from assess_lib.outline import MODES, names_declared
@@ -114,6 +115,9 @@ def _bytes(case: Case, lost: Lost) -> Optional[Mend]:
         return Mend(token.first, token.after, plain)
     if token is not None and token.text[0] == "[":
         return None
+    foreign = other_comment_end(case.text.letters, place)
+    if foreign > place:
+        return Mend(place, foreign, "")
     if token is not None and token.text == "]":
         before = [each for each in case.tokens if each.kind is Kind.COMMENT and each.after <= place]
         return Mend(before[-1].after if before else place, place + 1, "")
