@@ -8,6 +8,7 @@ from typing import NoReturn, Optional, Sequence
 
 from assess_lib import VERSION
 from assess_lib.check import check
+from assess_lib.folder import assess_folder, run_one
 from assess_lib.page import write_page
 from assess_lib.program import NoProgram, Status, find_program
 
@@ -55,7 +56,10 @@ def _run(words: argparse.Namespace) -> int:
         return check(words.files, program, sys.stdout, sys.stderr)
     if words.word == "page":
         return write_page(words.file, program, sys.stdout, sys.stderr)
-    raise AssertionError(words.word)
+    if words.word == "one":
+        run_one(words.file, program)
+        return int(Status.CLEAN)
+    return assess_folder(words.folder, program, words.jobs, words.sshlogin, sys.stdout, sys.stderr)
 
 
 def main(arguments: Optional[Sequence[str]] = None) -> int:

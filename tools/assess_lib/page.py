@@ -83,7 +83,7 @@ def _sentence(found: Analysis, number: int, each: Analysed) -> Markup:
     clean = report.reducible and report.has(Heading.COMPLIANCE) and report.compliance and not left_over(report.compliance)
     colour = "clean" if clean else "left" if report.has(Heading.COMPLIANCE) or not report.reducible else "quiet"
     words = folded("The claim's words", element("p", claim(report)))
-    told = element("p", link(f"#p{number}", report.name), ": ", sentence(report), ".")
+    told = element("p", link(f"#p{number}", f"Procedure {report.name}"), ": ", sentence(report), ".")
     return element("div", told, words, class_=f"sentence {colour}")
 
 
@@ -150,8 +150,6 @@ def _reported(found: Analysis) -> Markup:
     parts = [_sentence(found, number, each) for number, each in enumerate(found.procedures, 1)]
     if found.report is not None and found.report.status is None:
         parts.insert(0, element("p", f"The report is not whole: {meaning_of(found.outcome.status)}.", class_="sentence refused"))
-    links = [element("li", link(f"#p{number}", each.report.name)) for number, each in enumerate(found.procedures, 1)]
-    parts.append(element("nav", element("ul", links), aria_label="Procedures"))
     parts.append(head_of_text(found))
     parts += [_procedure(found, number, each) for number, each in enumerate(found.procedures, 1)]
     parts.append(element("h2", "The report as malpas wrote it", id="report"))

@@ -48,7 +48,7 @@ details{margin:.3rem 0}
 details>div,details>ol,details>ul,details>table,details>p{margin-left:.8rem}
 .unseen{position:absolute;width:1px;height:1px;overflow:hidden;clip-path:inset(50%);white-space:nowrap}
 .figure svg{display:block;height:auto}
-.figure{overflow:auto;max-height:48rem;border:1px solid #ddd;padding:.4rem;margin:.4rem 0}
+.figure{overflow:auto;max-height:75rem;border:1px solid #ddd;padding:.4rem;margin:.4rem 0}
 figure{margin:.5rem 0}
 ul.legend{list-style:none;display:flex;flex-wrap:wrap;gap:.2rem 1rem;padding:0;font-size:.9em}
 .swatch{display:inline-block;width:1.6em;height:1em;border:1px solid INK;vertical-align:-.1em;margin-right:.35em}
