@@ -9,7 +9,7 @@ from typing import Optional
 from assess_lib.faults import Faults, find_faults
 from assess_lib.listing import Listing
 from assess_lib.outline import outline_of
-from assess_lib.program import Outcome, Program
+from assess_lib.program import Outcome, Runner
 from assess_lib.report import ProcedureReport, Report
 from assess_lib.report_reader import read_refusal, read_report
 from assess_lib.source import SourceText
@@ -36,12 +36,12 @@ class Analysis:
     procedures: list[Analysed] = field(default_factory=list)
 
 
-def analyse(file: str, source: SourceText, program: Program) -> Analysis:
+def analyse(file: str, source: SourceText, program: Runner) -> Analysis:
     """Runs malpas on a text and reads what it said; after a refusal it looks for further faults."""
     return understood(file, source, program.run(source.data), program)
 
 
-def understood(file: str, source: SourceText, outcome: Outcome, program: Optional[Program]) -> Analysis:
+def understood(file: str, source: SourceText, outcome: Outcome, program: Optional[Runner]) -> Analysis:
     """Reads what malpas said of a text. Without a program a refusal is its first fault alone."""
     found = Analysis(file, source, outcome)
     refusal = read_refusal(outcome.output)

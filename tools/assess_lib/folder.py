@@ -12,10 +12,12 @@ import shutil
 import subprocess
 import sys
 import time
+from collections import Counter
 from dataclasses import asdict, dataclass
 from pathlib import Path
 from typing import Optional, TextIO
 
+from assess_lib import VERSION
 from assess_lib.analysis import Analysis, read_source, understood
 from assess_lib.findings import findings_of
 from assess_lib.markup import Child, Markup, element, joined, link, row, table
@@ -109,13 +111,18 @@ def run_one(file: str, program: Program) -> int:
     found = understood(text.name, source, outcome, program)
     _write(_beside(text, ".report"), outcome.output)
     _write(_beside(text, ".html"), page(found, Made(f"{program.path.name}, {program.version}", now())))
-    _write(record_path(text), json.dumps(asdict(_record(found, program.digest, seconds)), indent=1) + "\n")
+    _write(record_path(text), json.dumps(asdict(_record(found, _maker(program), seconds)), indent=1) + "\n")
     return outcome.status
 
 
 def texts_of(folder: Path) -> list[Path]:
     """All texts of a folder and the folders in it, in the order of their names."""
     return sorted(path for path in folder.rglob("*.mal") if path.is_file() and KEPT not in path.parts)
+
+
+def _maker(program: Program) -> str:
+    """What makes reports and pages: the program and the version of this tool."""
+    return f"{program.digest} assess {VERSION}"
 
 
 def _is_kept(text: Path, digest: str) -> bool:
@@ -128,14 +135,16 @@ def _is_kept(text: Path, digest: str) -> bool:
 
 def _parallel_words(program: Program, folder: Path, jobs: Optional[str], machines: list[str]) -> list[str]:
     """The command line of GNU parallel, which is fed the names of texts, ended by zero bytes."""
-    words = ["parallel", "--will-cite", "--null", "--bar", "--joblog", str(folder / KEPT / "joblog")]
+    words = ["parallel", "--will-cite", "--null", "--joblog", str(folder / KEPT / "joblog")]
+    words += ["--bar"] if sys.stderr.isatty() else []
     words += ["--jobs", jobs] if jobs else []
     for machine in machines:
         words += ["--sshlogin", machine]
     if machines:
         words += ["--workdir", str(folder), "--transferfile", "{}", "--return", "{.}.report", "--return", "{.}.html"]
         words += ["--return", "{//}/" + KEPT + "/{/}.json", "--cleanup"]
-    return words + [str(_COMMAND), "one", "--program", str(program.path), "{}"]
+    command = [str(_COMMAND)] if machines else [sys.executable, str(_COMMAND)]
+    return words + [*command, "one", "--program", str(program.path), "{}"]
 
 
 def _run_all(texts: list[Path], program: Program, folder: Path, jobs: Optional[str], machines: list[str]) -> None:
@@ -169,14 +178,17 @@ def _index_row(folder: Path, text: Path) -> Markup:
 def index_page(folder: Path, texts: list[Path], program: Program) -> str:
     """The index page over all texts."""
     records = [record for record in map(read_record, texts) if record is not None]
-    counts = {status: sum(record.status == status for record in records) for status in sorted({each.status for each in records})}
-    told = [element("li", f"{count} with status {status}: {meaning_of(status)}") for status, count in counts.items()]
+    counts = Counter(record.status for record in records)
+    told = [element("li", f"{counts[status]} with status {status}: {meaning_of(status)}") for status in sorted(counts)]
     heads = ["Text", "Status", "Findings", "Shown", "Open", "False", "Past", "Time of malpas", "Report"]
     made = table("Texts", heads, [_index_row(folder, text) for text in texts])
     pairs = [("Texts", len(texts)), ("malpas", f"{program.path.name}, {program.version}"), ("Date", now())]
     head = element("dl", [joined([element("dt", name), element("dd", value)]) for name, value in pairs], class_="head")
     top = element("header", element("h1", f"Assessment of {folder.name}"), head)
-    words = "Shown, Open and False count threats; - stands where the report has no section on them. Past counts regions past their size."
+    words = (
+        "Shown, Open and False count threats; - stands where the report has no section on them. Past counts regions past "
+        "their size."
+    )
     body = element("main", element("ul", told), element("h2", "Texts"), made, element("p", words), id="main")
     return document(f"Assessment of {folder.name} - assess", top, body)
 
@@ -189,7 +201,7 @@ def assess_folder(name: str, program: Program, jobs: Optional[str], machines: li
         return int(Status.READ_FAILED)
     texts = texts_of(folder)
     program.run(_PROBE)
-    digest = program.digest
+    digest = _maker(program)
     changed = [text for text in texts if not _is_kept(text, digest)]
     for text in changed:
         record_path(text).unlink(missing_ok=True)

@@ -140,8 +140,8 @@ def _boxes(analysed: Analysed, blocks: list[Block], prefix: str) -> list[str]:
         """A loop's box with all that is in it."""
         lines = list(home.get(number, []))
         for inner in [each for each in outer if outer[each] == number and each != number]:
-            lines += [f"subgraph cluster_{inner} {{", f'label="loop L{loops[inner].head}" {_FONT} color="#555555" style=rounded']
-            lines += [*box(inner), "}"]
+            name = f'label="loop L{loops[inner].head}" labeljust=l {_FONT} color="#555555" style=rounded'
+            lines += [f"subgraph cluster_{inner} {{", name, *box(inner), "}"]
         return lines
 
     return box(None)

@@ -10,6 +10,7 @@ from assess_lib.statements import Statement
 from assess_lib.tokens import KEYWORDS, STATEMENT_KEYWORDS, Kind, Token
 
 RELATIONS = frozenset(("=", "/=", "<", "<=", ">", ">="))
+_ALONE = frozenset(("ELSE", "ENDIF", "LOOP", "ENDLOOP", "SKIP", "ENDPROC", "FINISH", "RETURN"))
 CONDITIONED = frozenset(("IF", "EXIT", "ASSERT", "PRE", "POST"))
 _LOOP = "the one loop is LOOP; .. EXIT WHEN condition; .. ENDLOOP;"
 _DECLARE = "a variable is declared by IN, INOUT, OUT or LOCAL, as in LOCAL x : 0 .. 9;"
@@ -68,7 +69,9 @@ def _ends_expression(token: Token) -> bool:
 def _goes_on(case: Case) -> bool:
     """Whether the statement at fault holds another one behind a missing `;` or a THEN."""
     statement = case.statement
-    return statement is not None and ("THEN" in map(str.upper, statement.words) or swallowed(case, statement) is not None)
+    if statement is None:
+        return False
+    return "THEN" in map(str.upper, statement.words) or swallowed(case, statement) is not None
 
 
 def missing_semicolon(case: Case) -> Optional[str]:
@@ -112,7 +115,7 @@ def foreign_word(case: Case) -> Optional[str]:
 def alone(case: Case) -> Optional[str]:
     """More words behind a statement that is one word."""
     words = _words(case)
-    if len(words) < 2 or _goes_on(case) or words[0] not in ("ELSE", "ENDIF", "LOOP", "ENDLOOP", "SKIP", "ENDPROC", "FINISH", "RETURN"):
+    if len(words) < 2 or words[0] not in _ALONE or _goes_on(case):
         return None
     if words[0] == "RETURN":
         return "RETURN has no value: assign the OUT variables, then write RETURN;"

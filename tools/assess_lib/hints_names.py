@@ -160,10 +160,12 @@ def wrong_mode(case: Case) -> Optional[str]:
     if "OLD" in words and words[0] not in ("PRE", "POST", "ASSERT"):
         return "OLD stands in PRE, POST and ASSERT alone: keep the first value in a LOCAL variable"
     barred = {"PRE": (Mode.OUT, Mode.LOCAL), "POST": (Mode.LOCAL,)}.get(words[0], ())
-    named = next((each for each in map(lambda word: _variable(case, word), words[1:]) if each and each.mode in barred), None)
+    variables = [_variable(case, word) for word in words[1:]]
+    named = next((each for each in variables if each is not None and each.mode in barred), None)
     if named is None:
         return None
-    return f"{named.name} is {named.mode.value}, and {words[0]} speaks of {'IN and INOUT' if words[0] == 'PRE' else 'IN, INOUT and OUT'} variables"
+    allowed = "IN and INOUT" if words[0] == "PRE" else "IN, INOUT and OUT"
+    return f"{named.name} is {named.mode.value}, and {words[0]} speaks of {allowed} variables"
 
 
 def empty_range(case: Case) -> Optional[str]:

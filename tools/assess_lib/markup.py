@@ -25,7 +25,7 @@ def _flat(child: Child) -> str:
 
 
 def element(name: str, /, *children: Child, **attributes: object) -> Markup:
-    """An element. An attribute's name loses a last `_` and has `-` for `_`; None and False leave it out, True has no value."""
+    """An element. In an attribute's name `_` is written `-`, a last one not at all; None leaves it out, True has no value."""
     written = ""
     for key, value in attributes.items():
         key = key.rstrip("_").replace("_", "-")

@@ -149,7 +149,8 @@ def _reported(found: Analysis) -> Markup:
     """The page's content for a report, whole or cut short."""
     parts = [_sentence(found, number, each) for number, each in enumerate(found.procedures, 1)]
     if found.report is not None and found.report.status is None:
-        parts.insert(0, element("p", f"The report is not whole: {meaning_of(found.outcome.status)}.", class_="sentence refused"))
+        told = f"The report is not whole: {meaning_of(found.outcome.status)}."
+        parts.insert(0, element("p", told, class_="sentence refused"))
     parts.append(head_of_text(found))
     parts += [_procedure(found, number, each) for number, each in enumerate(found.procedures, 1)]
     parts.append(element("h2", "The report as malpas wrote it", id="report"))
@@ -165,7 +166,7 @@ def page(found: Analysis, made: Made) -> str:
         content = _reported(found)
     else:
         content = joined([element("p", meaning_of(found.outcome.status)), element("pre", found.outcome.output, tabindex="0")])
-    foot = "Lines L0, L1 .. are the report's; lines without an L are the file's. This page adds nothing to what the report claims."
+    foot = "Lines L0, L1 .. are the report's; lines without an L are the file's. The page claims no more than the report."
     return document(
         f"{found.file} - assess",
         _head(found, made),

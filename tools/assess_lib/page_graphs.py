@@ -6,6 +6,7 @@ from assess_lib.analysis import Analysed
 from assess_lib.graph import NoPicture, level_graph, line_graph
 from assess_lib.markup import Markup, between, element, folded, joined, row, table
 from assess_lib.page_source import line_link
+from assess_lib.sentences import counted
 
 _OPEN_NODES = 80
 
@@ -33,7 +34,7 @@ def _no_picture(reason: str) -> Markup:
 
 def picture(each: Analysed, number: int) -> Markup:
     """The line graph of a procedure."""
-    title = element("h3", "Line graph", id=f"p{number}-graph-title")
+    title = element("h3", "Line graph", id=f"p{number}-picture")
     if each.report.paths is None:
         return joined([title, _no_picture("the report of this procedure has no arcs")])
     try:
@@ -60,14 +61,14 @@ def _level_picture(each: Analysed, level: int, number: int) -> Markup:
 def reduction(each: Analysed, number: int) -> Markup:
     """The reduction of a procedure, level by level."""
     control = each.report.control
-    rows = [
-        row(f"{level} ", line_link(number, interval.head), between([line_link(number, line) for line in interval.members], " "))
-        for level, intervals in enumerate(control.levels)
-        for interval in intervals
-    ]
+    rows = []
+    for level, intervals in enumerate(control.levels):
+        for interval in intervals:
+            members = between([line_link(number, line) for line in interval.members], " ")
+            rows.append(row(level, line_link(number, interval.head), members))
     made = table(f"Intervals of {each.report.name}", ["Level", "Head", "Members"], rows)
     pictures = [_level_picture(each, level, number) for level in range(1, len(control.levels))]
     ends = "one interval is left, so it is reducible" if each.report.reducible else "only single nodes are left"
     told = element("p", f"The last level is {len(control.levels) - 1}: {ends}.") if control.levels else None
     title = element("h3", "Reduction, level by level", id=f"p{number}-reduction")
-    return joined([title, told, folded(f"{len(rows)} intervals", made, *pictures, open_=len(rows) <= 12)])
+    return joined([title, told, folded(counted(len(rows), "interval"), made, *pictures, open_=len(rows) <= 12)])

@@ -7,6 +7,7 @@ from assess_lib.findings import threat_line
 from assess_lib.markup import Markup, between, element, folded, joined, link, row, table
 from assess_lib.outline import MODES
 from assess_lib.report import Verdict
+from assess_lib.sentences import counted
 
 _OPEN_LINES = 150
 
@@ -50,9 +51,9 @@ def _threat_marks(each: Analysed, number: int, line: int) -> list[Markup]:
     last = each.report.line_count - 1
     left = [threat for threat in compliance.threats if threat.verdict is not Verdict.FALSE]
     return [
-        link(f"#p{number}-threat{threat.number}", f"{threat.verdict.value.capitalize()} threat {threat.number}", class_="mark refused")
-        for threat in left
-        if threat_line(threat, last) == line
+        link(f"#p{number}-threat{one.number}", f"{one.verdict.value.capitalize()} threat {one.number}", class_="mark refused")
+        for one in left
+        if threat_line(one, last) == line
     ]
 
 
@@ -91,8 +92,7 @@ def source_table(each: Analysed, number: int) -> Markup:
     heads = ["File", "Report", "Text", "What the report says of it"]
     made = table(f"Source of {procedure.name}", heads, rows, "source")
     title = element("h3", "Source", id=f"p{number}-source")
-    long = len(rows) > _OPEN_LINES
-    return joined([title, folded(f"{len(rows)} lines", made, open_=not long, class_="source-fold")])
+    return joined([title, folded(counted(len(rows), "line"), made, open_=len(rows) <= _OPEN_LINES)])
 
 
 def _mode_words(mode: str) -> str:
@@ -113,8 +113,8 @@ def head_of_text(found: Analysis) -> Markup:
     first = found.source.line_of(found.procedures[0].listing.procedure.statement.first)
     if first == 1:
         return Markup("")
-    rows = [
-        row(line, element("span", found.source.line_text(line), class_="mono text"), id=f"f{line}") for line in range(1, first)
-    ]
+    lines = [(line, element("span", found.source.line_text(line), class_="mono text")) for line in range(1, first)]
+    rows = [row(line, text, id=f"f{line}") for line, text in lines]
     made = table("Head of the text", ["File", "Text"], rows, "source")
-    return joined([element("h2", "Head of the text", id="head"), folded(f"{len(rows)} lines", made, open_=len(rows) <= 40)])
+    title = element("h2", "Head of the text", id="head")
+    return joined([title, folded(counted(len(rows), "line"), made, open_=len(rows) <= 40)])

@@ -28,7 +28,7 @@ a:focus-visible,summary:focus-visible,div:focus-visible{outline:3px solid #0b3f8
 code,pre,.mono{font-family:"DejaVu Sans Mono",ui-monospace,Consolas,monospace;font-size:.9em}
 pre{margin:.3rem 0;padding:.6rem;background:#f7f7f7;overflow:auto;border:1px solid #ddd}
 dl.head{display:grid;grid-template-columns:max-content 1fr;gap:.15rem 1rem;margin:.5rem 0 1rem}
-dl.head dt{font-weight:600}dl.head dd{margin:0;overflow-wrap:anywhere}
+dl.head dt{font-weight:600}dl.head dd{margin:0;min-width:0;overflow-wrap:anywhere}.head .mark{white-space:normal}
 .wide{overflow-x:auto;margin:.4rem 0 1rem}
 table{border-collapse:collapse}
 th,td{border:1px solid #c9c9c9;padding:.2rem .5rem;text-align:left;vertical-align:top}
@@ -45,6 +45,7 @@ table.matrix td,table.matrix thead th+th{text-align:center}
 .sentence p{margin:.2rem 0}
 summary{cursor:pointer;padding:.15rem 0}
 details{margin:.3rem 0}
+td ul{margin:0;padding-left:1.1rem}
 details>div,details>ol,details>ul,details>table,details>p{margin-left:.8rem}
 .unseen{position:absolute;width:1px;height:1px;overflow:hidden;clip-path:inset(50%);white-space:nowrap}
 .figure svg{display:block;height:auto}

@@ -3,14 +3,13 @@
 from __future__ import annotations
 
 import re
-from typing import Callable, Optional
 
 from assess_lib.analysis import Analysed
 from assess_lib.findings import threat_line
 from assess_lib.markup import Child, Markup, between, element, folded, joined, link, row, table
 from assess_lib.page_source import line_link, mark
 from assess_lib.report import Heading, InputTable, RegionTable, Row, Threat, UseRow, Value, Verdict
-from assess_lib.sentences import stop_words
+from assess_lib.sentences import counted, stop_words
 from assess_lib.walk import walk
 
 _AT_ONCE = 100
@@ -72,9 +71,11 @@ def paths_section(each: Analysed, number: int) -> Markup:
     if paths is None:
         return Markup("")
     arcs = [row(f"a{arc.number}", line_link(number, arc.tail), line_link(number, arc.head)) for arc in paths.arcs]
-    definitions = [row(each_one.name, _reference(number, each_one.text), id=f"p{number}-{each_one.name}") for each_one in paths.definitions]
+    definitions = [row(one.name, _reference(number, one.text), id=f"p{number}-{one.name}") for one in paths.definitions]
     first = element("p", "All paths from L0 to the last line: ", _reference(number, paths.everything), ". ")
-    words = element("p", "+ is either of two sets of paths, . a path of the first and then one of the second, * any number of paths.")
+    words = element(
+        "p", "+ is either of two sets of paths, . a path of the first and then one of the second, * any number of paths."
+    )
     shown = table(f"Path definitions of {each.report.name}", ["Name", "Is"], definitions)
     listed = table(f"Arcs of {each.report.name}", ["Arc", "From", "To"], arcs)
     return joined(
@@ -82,20 +83,22 @@ def paths_section(each: Analysed, number: int) -> Markup:
             element("h3", "Paths", id=f"p{number}-paths"),
             first,
             words,
-            folded(f"{len(definitions)} definitions", shown),
-            folded(f"{len(arcs)} arcs", listed),
+            folded(counted(len(definitions), "definition"), shown),
+            folded(counted(len(arcs), "arc"), listed),
         ]
     )
 
 
-def _in_parts(rows: list[Markup], made: Callable[[list[Markup]], Markup], what: str) -> Markup:
+def _in_parts(rows: list[Markup], name: str, heads: list[str]) -> Markup:
     """A table, cut into folded parts where it is long."""
     if len(rows) <= _AT_ONCE:
-        return made(rows)
-    parts = [rows[at : at + _AT_ONCE] for at in range(0, len(rows), _AT_ONCE)]
-    return joined(
-        [folded(f"{what} {at * _AT_ONCE + 1} to {at * _AT_ONCE + len(part)}", made(part)) for at, part in enumerate(parts)]
-    )
+        return table(name, heads, rows)
+    parts = []
+    for at in range(0, len(rows), _AT_ONCE):
+        part = rows[at : at + _AT_ONCE]
+        which = f"rows {at + 1} to {at + len(part)}"
+        parts.append(folded(which, table(f"{name}, {which}", heads, part)))
+    return joined(parts)
 
 
 def _stop(number: int, stop: str) -> Markup:
@@ -107,12 +110,13 @@ def _stop(number: int, stop: str) -> Markup:
 
 def _table_row(number: int, region: int, each: Row) -> Markup:
     """A row of a region's table: conditions and stop, and each changed place's value in terms of the start."""
-    conditions = element("ul", [element("li", literal, class_="mono") for literal in each.literals]) if each.literals else "always"
+    listed = [element("li", literal, class_="mono") for literal in each.literals]
+    conditions: Child = element("ul", listed) if listed else "always"
     lines = [element("div", value.place, class_="mono") for value in each.values]
     values = [element("div", value.text, class_="mono") for value in each.values]
     path = element("span", each.path or "-", class_="mono")
-    unchanged = "as at the start" if not each.values else None
-    return row(each.number, path, conditions, _stop(number, each.stop), lines, values or unchanged, id=f"p{number}-R{region}-{each.number}")
+    ends: list[Child] = [_stop(number, each.stop), lines, values or "as at the start"]
+    return row(each.number, path, conditions, *ends, id=f"p{number}-R{region}-{each.number}")
 
 
 def _region_table(each: Analysed, number: int, region: RegionTable) -> Markup:
@@ -124,15 +128,15 @@ def _region_table(each: Analysed, number: int, region: RegionTable) -> Markup:
     heads = ["Row", "Path", "Where, at the start", "Stop", "Place", "Its value at the stop, in values of the start"]
     rows = [_table_row(number, region.head, one) for one in region.rows]
     name = f"Table of region L{region.head} of {each.report.name}"
-    made = _in_parts(rows, lambda part: table(name, heads, part), "rows")
-    return joined([title, begins, folded(f"{len(rows)} rows", made, open_=len(rows) <= 20)])
+    made = _in_parts(rows, name, heads)
+    return joined([title, begins, folded(counted(len(rows), "row"), made, open_=len(rows) <= 20)])
 
 
 def tables_section(each: Analysed, number: int) -> Markup:
     """The tables, region by region."""
     if not each.report.has(Heading.SEMANTIC):
         return Markup("")
-    words = "Each input of a region takes one row. All values of a row speak of the start of the region; what is not named is unchanged."
+    words = "Each input of a region takes one row. All values of a row speak of the region's start; what is not named stays."
     parts = [element("h3", "Tables by region", id=f"p{number}-tables"), element("p", words)]
     return joined(parts + [_region_table(each, number, region) for region in each.report.tables])
 
@@ -144,24 +148,24 @@ def _values(caption: str, values: list[Value]) -> Markup:
     return table(caption, ["Place", "Value"], [row(value.place, value.text) for value in values], hidden=False)
 
 
-def _inputs_of(number: int, region: InputTable) -> Markup:
+def _inputs_of(each: Analysed, number: int, region: InputTable) -> Markup:
     """The test inputs of a region."""
-    rows = [
-        row(
-            link(f"#p{number}-R{region.head}-{one.number}", f"row {one.number}"),
-            "none was found" if one.values is None else ", ".join(f"{each.place} = {each.text}" for each in one.values) or "any",
-        )
-        for one in region.rows
-    ]
-    name = f"Test inputs of region L{region.head}"
-    return joined([element("h4", name), _in_parts(rows, lambda part: table(name, ["Row", "Input"], part), "rows")])
+    listed = {one.number for part in each.report.tables if part.head == region.head for one in part.rows}
+    rows = []
+    for one in region.rows:
+        values = ", ".join(f"{value.place} = {value.text}" for value in one.values or []) or "any"
+        name = f"row {one.number}"
+        shown = link(f"#p{number}-R{region.head}-{one.number}", name) if one.number in listed else name
+        rows.append(row(shown, "none was found" if one.values is None else values))
+    name = f"Test inputs of region L{region.head} of {each.report.name}"
+    return joined([element("h4", name), _in_parts(rows, name, ["Row", "Input"])])
 
 
 def inputs_section(each: Analysed, number: int) -> Markup:
     """The test inputs, region by region."""
     if not each.report.has(Heading.INPUTS):
         return Markup("")
-    parts = [_inputs_of(number, region) for region in each.report.inputs]
+    parts = [_inputs_of(each, number, region) for region in each.report.inputs]
     return joined([element("h3", "Test inputs", id=f"p{number}-inputs"), *parts])
 
 
@@ -182,15 +186,18 @@ def _walked(each: Analysed, number: int, threat: Threat) -> Markup:
 def _threat(each: Analysed, number: int, threat: Threat) -> Markup:
     """A threat with its stop, its region, its path, and its input or what is undecided."""
     line = threat_line(threat, each.report.line_count - 1)
-    region: Optional[str] = f"#p{number}-R{threat.region}" if each.report.tables else None
-    begins = link(region, f"region L{threat.region}") if region else joined(["region ", line_link(number, threat.region)])
+    listed = any(region.head == threat.region for region in each.report.tables)
+    name = f"region L{threat.region}"
+    begins = link(f"#p{number}-R{threat.region}", name) if listed else joined(["region ", line_link(number, threat.region)])
     told: list[Child] = [f"Threat {threat.number}: ", stop_words(threat.stop), " at ", line_link(number, line), ", ", begins]
-    body: list[Child] = [element("p", "Path ", element("span", threat.path or "-", class_="mono")), _walked(each, number, threat)]
+    path = element("p", "Path ", element("span", threat.path or "-", class_="mono"))
+    body: list[Child] = [path, _walked(each, number, threat)]
     if threat.verdict is Verdict.SHOWN:
-        body.insert(0, _values(f"Input of threat {threat.number}", threat.values))
+        body.insert(0, _values(f"Input of threat {threat.number} of {each.report.name}", threat.values))
     if threat.verdict is Verdict.OPEN:
         body.insert(0, element("p", "Undecided: ", element("span", threat.literal, class_="mono")))
-    return element("li", element("p", told), folded("Input and path", body, open_=threat.verdict is Verdict.SHOWN), id=f"p{number}-threat{threat.number}")
+    shown = folded("Input and path", body, open_=threat.verdict is Verdict.SHOWN)
+    return element("li", element("p", told), shown, id=f"p{number}-threat{threat.number}")
 
 
 def threats_section(each: Analysed, number: int) -> Markup:
@@ -200,7 +207,8 @@ def threats_section(each: Analysed, number: int) -> Markup:
         return Markup("")
     parts: list[Markup] = [element("h3", "Threats by verdict", id=f"p{number}-threats")]
     for region, size in compliance.past.items():
-        parts.append(element("p", mark(f"region L{region} is past its size ({size.lower()}): it has no threats here", "left")))
+        told = f"region L{region} is past its size ({size.lower()}): it has no threats here"
+        parts.append(element("p", mark(told, "left")))
     for verdict, (words, colour) in _VERDICTS.items():
         threats = [threat for threat in compliance.threats if threat.verdict is verdict]
         if threats:

@@ -10,7 +10,7 @@ import sys
 from dataclasses import dataclass
 from enum import IntEnum
 from pathlib import Path
-from typing import Optional
+from typing import Optional, Protocol
 
 TOP = Path(__file__).resolve().parent.parent.parent
 
@@ -53,6 +53,13 @@ class Outcome:
 
     status: int
     output: str
+
+
+class Runner(Protocol):
+    """What can run malpas on a text: the program, or what stands in for it."""
+
+    def run(self, data: bytes) -> Outcome:
+        """What malpas gives on these bytes."""
 
 
 class NoProgram(Exception):

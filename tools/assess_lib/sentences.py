@@ -80,6 +80,8 @@ def sentence(report: ProcedureReport) -> str:
     if not left:
         told = "no threats" if not compliance.threats else f"{threats}, all False"
         return f"no run from the precondition can go wrong: {told}"
+    if not compliance.threats:
+        return f"left to judge: {', '.join(left)}"
     false = compliance.count(Verdict.FALSE)
     return f"left to judge: {', '.join(left)}, of {threats} ({false} False)"
 
