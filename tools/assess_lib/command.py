@@ -14,8 +14,8 @@ from assess_lib.program import NoProgram, Status, find_program
 
 _ABOUT = "Runs malpas on texts and says what it found: for an editor, as a page, or for a folder."
 _STATUSES = (
-    "exit status: that of malpas, the greatest of several texts: 0 a report and nothing left to judge, 1 a report with "
-    "something left, 2 refused, 3 not read, 4 not written, 5 out of memory, 6 words not understood, 7 malpas not started"
+    "exit status: that of malpas, the greatest of several texts: 0 a report that leaves nothing open, 1 a report that "
+    "leaves something open, 2 refused, 3 not read, 4 not written, 5 out of memory, 6 words not understood, 7 malpas not started"
 )
 
 

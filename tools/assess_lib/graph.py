@@ -9,8 +9,9 @@ from dataclasses import dataclass
 from typing import Optional
 
 from assess_lib.analysis import Analysed
+from assess_lib.arcs import reported_arcs
 from assess_lib.markup import Markup, element
-from assess_lib.page_style import DECIDING, INTERVALS
+from assess_lib.page_style import DECIDING, INTERVALS, TWICE
 from assess_lib.report import Arc, Interval, Loop
 
 MOST_NODES = 300
@@ -58,7 +59,7 @@ class Block:
 
 def blocks_of(analysed: Analysed) -> list[Block]:
     """The nodes of the picture: a node for each line, or for each straight run of lines in a long procedure."""
-    arcs = analysed.report.paths.arcs if analysed.report.paths else []
+    arcs = reported_arcs(analysed.report, analysed.listing)
     count = analysed.report.line_count
     if count <= _LONG_GRAPH:
         return [Block([line]) for line in range(count)]
@@ -106,6 +107,8 @@ def _node(analysed: Analysed, block: Block, prefix: str) -> str:
     colour = INTERVALS[number % len(INTERVALS)] if number is not None else "#ececec"
     style = "filled,dashed" if first in control.unreachable else "filled"
     marks = [f'shape=box style="{style}" fillcolor="{colour}"']
+    if control.two_entries is not None and first in control.two_entries.cycle:
+        marks.append(f'color="{TWICE}" penwidth=3')
     if any(first == loop.head for loop in control.loops):
         marks.append("peripheries=2")
     if set(block.lines) & set(analysed.report.deciding):
@@ -147,7 +150,7 @@ def _boxes(analysed: Analysed, blocks: list[Block], prefix: str) -> list[str]:
     return box(None)
 
 
-def _edges(analysed: Analysed, blocks: list[Block], arcs: list[Arc]) -> list[str]:
+def _edges(blocks: list[Block], arcs: list[Arc]) -> list[str]:
     """The arcs between nodes, the two of a test with T and F, as lines of dot."""
     node = {line: block.lines[0] for block in blocks for line in block.lines}
     last = {block.lines[-1] for block in blocks}
@@ -165,14 +168,14 @@ def _edges(analysed: Analysed, blocks: list[Block], arcs: list[Arc]) -> list[str
 
 def line_graph(analysed: Analysed, prefix: str) -> Markup:
     """The picture of the line graph: loops boxed, heads doubled, intervals and deciding tests coloured."""
-    paths = analysed.report.paths
-    if paths is None or not paths.arcs:
-        raise NoPicture("the report has no arcs")
+    arcs = reported_arcs(analysed.report, analysed.listing)
+    if not arcs:
+        raise NoPicture("the report gives no arcs")
     blocks = blocks_of(analysed)
     if len(blocks) > MOST_NODES:
         raise NoPicture(f"it would have {len(blocks)} nodes, more than {MOST_NODES}")
     lines = ["digraph {", f"node [{_FONT} margin=\"0.08,0.04\"]; rankdir=TB; nodesep=0.25; ranksep=0.3;"]
-    lines += _boxes(analysed, blocks, prefix) + _edges(analysed, blocks, paths.arcs) + ["}"]
+    lines += _boxes(analysed, blocks, prefix) + _edges(blocks, arcs) + ["}"]
     return draw("\n".join(lines), f"Line graph of {analysed.report.name}", f"{prefix}-graph")
 
 
@@ -183,7 +186,7 @@ def _level_arcs(analysed: Analysed, number: int) -> set[tuple[int, int]]:
     for level in control.levels[:number]:
         into = {member: interval.head for interval in level for member in interval.members}
         at = {line: into.get(node, node) for line, node in at.items()}
-    arcs = analysed.report.paths.arcs if analysed.report.paths else []
+    arcs = reported_arcs(analysed.report, analysed.listing)
     pairs = {(at[arc.tail], at[arc.head]) for arc in arcs if arc.tail in at and arc.head in at}
     return {(tail, head) for tail, head in pairs if tail != head}
 

@@ -6,6 +6,7 @@ from assess_lib.analysis import Analysed
 from assess_lib.graph import NoPicture, level_graph, line_graph
 from assess_lib.markup import Markup, between, element, folded, joined, row, table
 from assess_lib.page_source import line_link
+from assess_lib.report import Heading
 from assess_lib.sentences import counted
 
 _OPEN_NODES = 80
@@ -24,6 +25,10 @@ def _legend(each: Analysed) -> Markup:
         element("li", "double frame: a loop's head; rounded box: a loop"),
         element("li", "dashed frame: unreachable; T and F: the way of a true and of a false test"),
     ]
+    if not each.report.reducible:
+        entries.append(_swatch("twice", "thick violet frame: the cycle that has two entries"))
+    if not each.report.has(Heading.PATHS):
+        entries.append(element("li", "the report gives no arcs: these are made from the source by this tool"))
     return element("ul", entries, class_="legend")
 
 
@@ -35,8 +40,6 @@ def _no_picture(reason: str) -> Markup:
 def picture(each: Analysed, number: int) -> Markup:
     """The line graph of a procedure."""
     title = element("h3", "Line graph", id=f"p{number}-picture")
-    if each.report.paths is None:
-        return joined([title, _no_picture("the report of this procedure has no arcs")])
     try:
         drawn = line_graph(each, f"p{number}")
     except NoPicture as missing:
@@ -66,9 +69,10 @@ def reduction(each: Analysed, number: int) -> Markup:
         for interval in intervals:
             members = between([line_link(number, line) for line in interval.members], " ")
             rows.append(row(level, line_link(number, interval.head), members))
+    members = sum(len(interval.members) for level in control.levels for interval in level)
     made = table(f"Intervals of {each.report.name}", ["Level", "Head", "Members"], rows)
     pictures = [_level_picture(each, level, number) for level in range(1, len(control.levels))]
     ends = "one interval is left, so it is reducible" if each.report.reducible else "only single nodes are left"
     told = element("p", f"The last level is {len(control.levels) - 1}: {ends}.") if control.levels else None
     title = element("h3", "Reduction, level by level", id=f"p{number}-reduction")
-    return joined([title, told, folded(counted(len(rows), "interval"), made, *pictures, open_=len(rows) <= 12)])
+    return joined([title, told, folded(counted(len(rows), "interval"), made, *pictures, open_=members <= 60)])

@@ -39,7 +39,7 @@ def _marks(each: Analysed, number: int, line: int) -> list[Markup]:
     entries = control.two_entries
     if entries is not None and line in entries.cycle:
         door = line in (entries.first[-1:] + entries.second[-1:])
-        marks.append(mark("entered twice: an entry" if door else "entered twice", "left"))
+        marks.append(mark("in the cycle with two entries: an entry" if door else "in the cycle with two entries", "left"))
     return marks + _threat_marks(each, number, line)
 
 

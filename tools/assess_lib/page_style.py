@@ -15,6 +15,7 @@ INTERVALS = ["#dfeaf8", "#fbe9c8", "#dff1dc", "#f6dfe6", "#e8e1f5", "#d9f0f0", "
 """The papers of intervals, one after the other and again."""
 
 DECIDING = "#a1260d"
+TWICE = "#5b2a86"
 
 _FIXED = """
 *{box-sizing:border-box}
@@ -64,4 +65,4 @@ def style_sheet() -> str:
     """The whole style sheet."""
     marks = "".join(f".{name}{{color:{ink};background:{paper}}}" for name, (ink, paper) in COLOURS.items())
     swatches = "".join(f".interval{number}{{background:{colour}}}" for number, colour in enumerate(INTERVALS))
-    return _FIXED.replace("INK", INK).replace("PAPER", PAPER) + marks + swatches + f".deciding{{border:3px solid {DECIDING}}}"
+    return _FIXED.replace("INK", INK).replace("PAPER", PAPER) + marks + swatches + f".deciding{{border:3px solid {DECIDING}}}.twice{{border:3px solid {TWICE}}}"

@@ -6,6 +6,7 @@ from dataclasses import dataclass, field
 from typing import Optional
 
 from assess_lib.analysis import Analysed
+from assess_lib.arcs import reported_arcs
 from assess_lib.expressions import RELATIONS, Expression, Leaf, NotRead, Pair, Scope, Signed, read_expression, scope_of
 from assess_lib.statements import Statement
 
@@ -121,11 +122,11 @@ def walk(each: Analysed, region: int, path: str) -> Optional[list[Step]]:
     It ends where the path stops in a line, or where all its decisions are taken and a loop's head is met.
     """
     report, procedure = each.report, each.listing.procedure
-    if report.paths is None or report.expansions or not each.listing.agrees(report):
+    if report.expansions or not each.listing.agrees(report):
         return None
     heads = {loop.head for loop in report.control.loops}
     after: dict[int, list[int]] = {}
-    for arc in report.paths.arcs:
+    for arc in reported_arcs(report, each.listing):
         after.setdefault(arc.tail, []).append(arc.head)
     steps: list[Step] = []
     line = region

@@ -2,13 +2,14 @@
 
 from __future__ import annotations
 
+import functools
 import shutil
 import unittest
 from unittest import mock
 
 from assess_lib.analysis import Analysis, analyse, read_source, understood
 from assess_lib.page import Made, page
-from assess_lib.page_style import COLOURS, DECIDING, INK, INTERVALS, PAPER
+from assess_lib.page_style import COLOURS, DECIDING, INK, INTERVALS, PAPER, TWICE
 from assess_lib.program import Outcome
 from assess_lib.source import SourceText
 from assess_tests.accessibility import contrast, faults_of
@@ -16,6 +17,18 @@ from assess_tests.recorded import HERE, Recorded
 from assess_tests.test_reports import every_section, recorded
 
 MADE = Made("malpas, of a test", "2000-01-01 00:00 UTC")
+
+
+@functools.lru_cache(maxsize=None)
+def page_of_every_section() -> str:
+    """The page of the hand-made report, drawn once."""
+    return page(every_section(), MADE)
+
+
+def without_pictures(found: Analysis) -> str:
+    """A page made where dot is missing."""
+    with mock.patch("assess_lib.graph.shutil.which", return_value=None):
+        return page(found, MADE)
 
 
 def refused() -> Analysis:
@@ -30,7 +43,6 @@ class Rules(unittest.TestCase):
         """Reports of every kind, a refusal, a report cut short, and output that is neither."""
         names = ["valve", "copy", "two_entries", "no_way_out", "careless"]
         pages = {name: recorded(name) for name in names}
-        pages["every"] = every_section()
         pages["refused"] = refused()
         source = read_source(str(HERE / "texts" / "valve.mal"))
         whole = Recorded().run(source.data).output
@@ -40,6 +52,7 @@ class Rules(unittest.TestCase):
         for name, found in pages.items():
             with self.subTest(name):
                 self.assertEqual(faults_of(page(found, MADE)), [])
+        self.assertEqual(faults_of(page_of_every_section()), [])
 
     def test_contrast(self) -> None:
         """Each ink on its paper has a contrast of at least 4.5, and the frame of a test one of at least 3."""
@@ -48,11 +61,12 @@ class Rules(unittest.TestCase):
         for link in ("#0b3f8a", "#4a4a4a"):
             for paper in (PAPER, *[paper for _, paper in COLOURS.values()]):
                 self.assertGreaterEqual(contrast(link, paper), 4.5, (link, paper))
-        self.assertGreaterEqual(min(contrast(DECIDING, colour) for colour in INTERVALS), 3)
+        for frame in (DECIDING, TWICE):
+            self.assertGreaterEqual(min(contrast(frame, colour) for colour in INTERVALS), 3)
 
     def test_the_rules_find_faults(self) -> None:
         """The list of rules is no list that all pages keep."""
-        good = page(every_section(), MADE)
+        good = without_pictures(recorded("valve"))
         for old, new in (
             ('lang="en"', ""),
             ("<h1>", "<h2>"),
@@ -73,7 +87,7 @@ class Content(unittest.TestCase):
     def test_head(self) -> None:
         """File, SHA-256, program, date and status."""
         found = recorded("valve")
-        made = page(found, MADE)
+        made = without_pictures(found)
         for text in ("valve.mal", found.source.digest, MADE.program, MADE.date, "0: a report was written"):
             self.assertTrue(text in made, text)
 
@@ -88,7 +102,7 @@ class Content(unittest.TestCase):
 
     def test_sections(self) -> None:
         """Verdicts, tables, test inputs, certificates, paths on the lines, and the claim's words."""
-        made = page(every_section(), MADE)
+        made = page_of_every_section()
         for text in (
             "no run from the precondition can go wrong: 6 threats, all False",
             "That a run ends is not claimed",
@@ -102,7 +116,7 @@ class Content(unittest.TestCase):
             "[x + 1 &lt;= 9: false]",
             "Test inputs of region L0 of step",
             "READ 1 HOLDS",
-            "entered twice: an entry",
+            "in the cycle with two entries: an entry",
             "stuck: the end is not reached",
         ):
             self.assertTrue(text in made, text)
@@ -118,8 +132,7 @@ class Content(unittest.TestCase):
 
     def test_without_dot(self) -> None:
         """Where dot is missing, a word stands in the picture's place."""
-        with mock.patch("assess_lib.graph.shutil.which", return_value=None):
-            made = page(recorded("valve"), MADE)
+        made = without_pictures(recorded("valve"))
         self.assertFalse("<svg" in made)
         self.assertTrue("the command dot of Graphviz is not installed" in made)
         self.assertEqual(faults_of(made), [])

@@ -5,6 +5,7 @@ from __future__ import annotations
 import unittest
 
 from assess_lib.analysis import Analysis, analyse, read_source, understood
+from assess_lib.arcs import arcs_of
 from assess_lib.findings import facts_of, findings_of
 from assess_lib.program import Outcome
 from assess_lib.report import Heading, Verdict
@@ -88,6 +89,29 @@ class Reading(unittest.TestCase):
         self.assertEqual([line.file_line for line in listing.lines], [10, 12, 12, 4, 6, 5, 12, 13])
         threat = found.procedures[1].report.compliance.threats[0]  # type: ignore[union-attr]
         self.assertEqual([value.place for value in threat.values], ["x", "c1_v", "o1_v", "OLD x"])
+
+
+class Arcs(unittest.TestCase):
+    """The line graph made from the source is the report's."""
+
+    def test_arcs(self) -> None:
+        """For each reported procedure of the tests the arcs agree, numbers too."""
+        compared = 0
+        for found in [every_section(), *[recorded(name) for name in ("valve", "copy", "no_way_out", "careless")]]:
+            for each in found.procedures:
+                if each.report.paths is not None:
+                    self.assertEqual(arcs_of(each.listing), each.report.paths.arcs, each.report.name)
+                    compared += 1
+        self.assertEqual(compared, 13)
+
+    def test_without_paths(self) -> None:
+        """A procedure that is not reducible has the arcs of its source: the entries of its cycle are reached."""
+        found = recorded("two_entries").procedures[0]
+        pairs = {(arc.tail, arc.head) for arc in arcs_of(found.listing)}
+        entries = found.report.control.two_entries
+        assert entries is not None
+        for way in (entries.first, entries.second, entries.cycle + entries.cycle[:1]):
+            self.assertTrue(set(zip(way, way[1:])) <= pairs, way)
 
 
 class Sentences(unittest.TestCase):
