@@ -3,6 +3,7 @@
 from __future__ import annotations
 
 import argparse
+import os
 import sys
 from typing import NoReturn, Optional, Sequence
 
@@ -12,6 +13,7 @@ from assess_lib.folder import assess_folder, run_one
 from assess_lib.page import write_page
 from assess_lib.program import NoProgram, Status, find_program
 
+_STOPPED = 130
 _ABOUT = "Runs malpas on texts and says what it found: for an editor, as a page, or for a folder."
 _STATUSES = (
     "exit status: that of malpas, the greatest of several texts: 0 a report that leaves nothing open, 1 a report that "
@@ -74,3 +76,9 @@ def main(arguments: Optional[Sequence[str]] = None) -> int:
     except NoProgram as error:
         print(f"assess: {error}", file=sys.stderr)
         return int(Status.NO_WORDS)
+    except KeyboardInterrupt:
+        print("assess: stopped; a folder goes on from here when the command is given again", file=sys.stderr)
+        return _STOPPED
+    except BrokenPipeError:
+        os.dup2(os.open(os.devnull, os.O_WRONLY), sys.stdout.fileno())
+        return int(Status.WRITE_FAILED)

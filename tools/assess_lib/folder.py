@@ -57,11 +57,11 @@ def record_path(text: Path) -> Path:
     return text.parent / KEPT / f"{text.name}.json"
 
 
-def _write(path: Path, content: str) -> None:
+def _write(path: Path, content: bytes) -> None:
     """Writes a file whole or not at all."""
     path.parent.mkdir(exist_ok=True)
     half = path.with_name(f"{path.name}.{os.getpid()}.part")
-    half.write_text(content, encoding="utf-8", newline="")
+    half.write_bytes(content)
     os.replace(half, path)
 
 
@@ -109,9 +109,11 @@ def run_one(file: str, program: Program) -> int:
     outcome = program.run(source.data)
     seconds = time.monotonic() - begun
     found = understood(text.name, source, outcome, program)
-    _write(_beside(text, ".report"), outcome.output)
-    _write(_beside(text, ".html"), page(found, Made(f"{program.path.name}, {program.version}", now())))
-    _write(record_path(text), json.dumps(asdict(_record(found, _maker(program), seconds)), indent=1) + "\n")
+    _write(_beside(text, ".report"), outcome.output.encode("latin-1"))
+    made = Made(f"{program.path.name}, {program.version}", now())
+    _write(_beside(text, ".html"), page(found, made).encode())
+    record = json.dumps(asdict(_record(found, _maker(program), seconds)), indent=1)
+    _write(record_path(text), f"{record}\n".encode())
     return outcome.status
 
 
@@ -141,7 +143,7 @@ def _parallel_words(program: Program, folder: Path, jobs: Optional[str], machine
     for machine in machines:
         words += ["--sshlogin", machine]
     if machines:
-        words += ["--workdir", str(folder), "--transferfile", "{}", "--return", "{.}.report", "--return", "{.}.html"]
+        words += ["--workdir", "...", "--transferfile", "{}", "--return", "{.}.report", "--return", "{.}.html"]
         words += ["--return", "{//}/" + KEPT + "/{/}.json", "--cleanup"]
     command = [str(_COMMAND)] if machines else [sys.executable, str(_COMMAND)]
     return words + [*command, "one", "--program", str(program.path), "{}"]
@@ -208,7 +210,7 @@ def assess_folder(name: str, program: Program, jobs: Optional[str], machines: li
     print(f"{len(texts)} texts, {len(texts) - len(changed)} without change, {len(changed)} to run", file=out, flush=True)
     if changed:
         _run_all(changed, program, folder, jobs, machines)
-    _write(folder / "index.html", index_page(folder, texts, program))
+    _write(folder / "index.html", index_page(folder, texts, program).encode())
     failed = [text for text in texts if read_record(text) is None]
     for text in failed:
         print(f"assess: {text.relative_to(folder)} was not run to its end", file=errors)
