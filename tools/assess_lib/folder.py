@@ -16,6 +16,7 @@ from collections import Counter
 from dataclasses import asdict, dataclass
 from pathlib import Path
 from typing import Optional, TextIO
+from urllib.parse import quote
 
 from assess_lib import VERSION
 from assess_lib.analysis import Analysis, read_source, understood
@@ -77,8 +78,9 @@ def _told(found: Analysis) -> str:
     """What a text's status comes to, in a few words."""
     if found.faults is not None and found.faults.told:
         first = found.faults.told[0]
-        return f"refused: line {first.position.line}, {first.refusal.code}, {first.refusal.text}"
-    return meaning_of(found.outcome.status)
+        return f"line {first.position.line}: {first.refusal.code}, {first.refusal.text}"
+    left = {Status.CLEAN: "leaves nothing open", Status.LEFT: "leaves something open"}
+    return next((told for status, told in left.items() if status == found.outcome.status), meaning_of(found.outcome.status))
 
 
 def _record(found: Analysis, program: str, seconds: float) -> Record:
@@ -162,6 +164,11 @@ def _run_all(texts: list[Path], program: Program, folder: Path, jobs: Optional[s
     subprocess.run(words, input=names.encode("utf-8", "surrogateescape"), cwd=folder, check=False)
 
 
+def _address(folder: Path, file: Path) -> str:
+    """The address of a file, as the index page of the folder links to it."""
+    return quote(f"./{file.relative_to(folder)}")
+
+
 def _index_row(folder: Path, text: Path) -> Markup:
     """A text's row of the index."""
     name = str(text.relative_to(folder))
@@ -172,9 +179,10 @@ def _index_row(folder: Path, text: Path) -> Markup:
     status = element("span", f"{record.status}", class_=f"mark {colour}")
     counts: list[Child] = [record.shown, record.open_, record.false, record.past]
     threats = counts if record.threats_told else ["-"] * len(counts)
-    report = link(str(_beside(text, ".report").relative_to(folder)), f"report of {name}")
-    shown = link(str(_beside(text, ".html").relative_to(folder)), name)
-    return row(shown, joined([status, " ", record.told]), record.findings, *threats, f"{record.seconds:.2f} s", report)
+    rest = element("span", f" of {name}", class_="unseen")
+    report = link(_address(folder, _beside(text, ".report")), "report", rest)
+    shown = link(_address(folder, _beside(text, ".html")), name)
+    return row(shown, joined([status, " ", record.told]), record.findings, *threats, f"{record.seconds:.2f}\u00a0s", report)
 
 
 def index_page(folder: Path, texts: list[Path], program: Program) -> str:
@@ -182,14 +190,14 @@ def index_page(folder: Path, texts: list[Path], program: Program) -> str:
     records = [record for record in map(read_record, texts) if record is not None]
     counts = Counter(record.status for record in records)
     told = [element("li", f"{counts[status]} with status {status}: {meaning_of(status)}") for status in sorted(counts)]
-    heads = ["Text", "Status", "Findings", "Shown", "Open", "False", "Past", "Time of malpas", "Report"]
-    made = table("Texts", heads, [_index_row(folder, text) for text in texts])
+    heads = ["Text", "Status", "Findings", "Shown", "Open", "False", "Past", "Time", "Report"]
+    made = table("Texts", heads, [_index_row(folder, text) for text in texts], "index")
     pairs = [("Texts", len(texts)), ("malpas", f"{program.path.name}, {program.version}"), ("Date", now())]
     head = element("dl", [joined([element("dt", name), element("dd", value)]) for name, value in pairs], class_="head")
     top = element("header", element("h1", f"Assessment of {folder.name}"), head)
     words = (
         "Shown, Open and False count threats; - stands where the report has no section on them. Past counts regions past "
-        "their size."
+        "their size. The time is that of malpas."
     )
     body = element("main", element("ul", told), element("h2", "Texts"), made, element("p", words), id="main")
     return document(f"Assessment of {folder.name} - assess", top, body)

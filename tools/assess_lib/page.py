@@ -16,7 +16,14 @@ from assess_lib.markup import Markup, element, folded, joined, link
 from assess_lib.page_graphs import picture, reduction
 from assess_lib.page_source import head_of_text, source_table
 from assess_lib.page_style import style_sheet
-from assess_lib.page_tables import inputs_section, paths_section, tables_section, threats_section, variables_section
+from assess_lib.page_tables import (
+    inputs_section,
+    paths_section,
+    slices_section,
+    tables_section,
+    threats_section,
+    variables_section,
+)
 from assess_lib.program import Program, Status, meaning_of
 from assess_lib.report import Heading
 from assess_lib.sentences import EQUAL_VALUES, claim, left_over, not_analysed, sentence
@@ -113,6 +120,7 @@ def _procedure(found: Analysis, number: int, each: Analysed) -> Markup:
     parts.append(reduction(each, number))
     if report.has(Heading.USE) or report.has(Heading.FLOW):
         parts += [variables_section(each, number), folded("The claim's words on flow", element("p", EQUAL_VALUES))]
+    parts.append(slices_section(each, number))
     parts += [threats_section(each, number), tables_section(each, number), inputs_section(each, number)]
     parts.append(paths_section(each, number))
     rest = report.unread + report.certificates

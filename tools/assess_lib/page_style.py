@@ -47,6 +47,8 @@ table.matrix td,table.matrix thead th+th{text-align:center}
 summary{cursor:pointer;padding:.15rem 0}
 details{margin:.3rem 0}
 td ul{margin:0;padding-left:1.1rem}
+table.index tbody th{min-width:9rem;max-width:24rem;overflow-wrap:anywhere}table.index td:nth-child(2){min-width:15rem}
+table.rows td:nth-child(3),table.rows td:nth-child(4){min-width:9rem}table.rows td:nth-child(6){min-width:14rem}
 details>div,details>ol,details>ul,details>table,details>p{margin-left:.8rem}
 .unseen{position:absolute;width:1px;height:1px;overflow:hidden;clip-path:inset(50%);white-space:nowrap}
 .figure svg{display:block;height:auto}

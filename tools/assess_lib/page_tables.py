@@ -59,6 +59,19 @@ def variables_section(each: Analysed, number: int) -> Markup:
     return joined([element("h3", "Use and flow", id=f"p{number}-use"), made, legend])
 
 
+def slices_section(each: Analysed, number: int) -> Markup:
+    """What the slice for each variable keeps."""
+    if not each.report.has(Heading.SLICE):
+        return Markup("")
+    rows = []
+    for one in each.report.slices:
+        kept = between([line_link(number, line) for line in one.keep], " ") if one.keep else "-"
+        rows.append(row(one.variable, kept, " ".join(one.fixed) or "-"))
+    made = table(f"Slices of {each.report.name}", ["Variable", "Lines kept", "Tests fixed"], rows)
+    words = "Where a run of the procedure ends well, so does that of the slice, with the same final value of the variable."
+    return joined([element("h3", "Slices", id=f"p{number}-slices"), element("p", words), folded(counted(len(rows), "slice"), made)])
+
+
 def _reference(number: int, text: str) -> Markup:
     """What stands behind the `=` of a path definition, with links to the definitions that it names."""
     parts = re.split(r"(E\d+)", text)
@@ -89,15 +102,15 @@ def paths_section(each: Analysed, number: int) -> Markup:
     )
 
 
-def _in_parts(rows: list[Markup], name: str, heads: list[str]) -> Markup:
+def _in_parts(rows: list[Markup], name: str, heads: list[str], class_: str = "") -> Markup:
     """A table, cut into folded parts where it is long."""
     if len(rows) <= _AT_ONCE:
-        return table(name, heads, rows)
+        return table(name, heads, rows, class_)
     parts = []
     for at in range(0, len(rows), _AT_ONCE):
         part = rows[at : at + _AT_ONCE]
         which = f"rows {at + 1} to {at + len(part)}"
-        parts.append(folded(which, table(f"{name}, {which}", heads, part)))
+        parts.append(folded(which, table(f"{name}, {which}", heads, part, class_)))
     return joined(parts)
 
 
@@ -128,7 +141,7 @@ def _region_table(each: Analysed, number: int, region: RegionTable) -> Markup:
     heads = ["Row", "Path", "Where, at the start", "Stop", "Place", "Its value at the stop, in values of the start"]
     rows = [_table_row(number, region.head, one) for one in region.rows]
     name = f"Table of region L{region.head} of {each.report.name}"
-    made = _in_parts(rows, name, heads)
+    made = _in_parts(rows, name, heads, "rows")
     return joined([title, begins, folded(counted(len(rows), "row"), made, open_=len(rows) <= 20)])
 
 

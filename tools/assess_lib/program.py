@@ -29,8 +29,8 @@ class Status(IntEnum):
 
 
 MEANING = {
-    Status.CLEAN: "a report was written, and by it nothing is left open",
-    Status.LEFT: "a report was written, and something in it is left open",
+    Status.CLEAN: "a report was written, and what it analyses leaves nothing open",
+    Status.LEFT: "a report was written, and it leaves something open",
     Status.REFUSED: "the text was refused",
     Status.READ_FAILED: "reading the text failed",
     Status.WRITE_FAILED: "writing the report failed, so it is not whole",

@@ -136,7 +136,7 @@ class Commands(unittest.TestCase):
         self.assertEqual((third.returncode, third.stdout.split("\n")[0]), (0, "2 texts, 0 without change, 2 to run"))
         self.assertIn("TITLE valve", (folder / "valve.report").read_text(encoding="ascii"))
         index = (folder / "index.html").read_text(encoding="utf-8")
-        self.assertIn('href="valve.html"', index)
+        self.assertIn('href="./valve.html"', index)
         self.assertEqual(faults_of(index), [])
         return first.stderr
 

@@ -116,6 +116,7 @@ class Content(unittest.TestCase):
             "[x + 1 &lt;= 9: false]",
             "Test inputs of region L0 of step",
             "READ 1 HOLDS",
+            "Slices of forever",
             "in the cycle with two entries: an entry",
             "stuck: the end is not reached",
         ):

@@ -193,6 +193,19 @@ class Walks(unittest.TestCase):
                     walked += 1
         self.assertEqual(walked, 32)
 
+    def test_valve(self) -> None:
+        """The paths of the valve controller's rows and threats end at the lines that are told by hand."""
+        found = {each.report.name: each for each in recorded("valve").procedures}
+        for name, region, paths in (
+            ("fill", 0, {"T": 1, "F": 0, "TTF": 4, "TF": 3}),
+            ("fill", 2, {"TTTTT": 13, "TTFT": 11, "TTFFT": 11, "TF": 4, "F": 3, "TTTTF": 13, "TTFTTF": 4, "TTFFF": 9}),
+            ("drain", 0, {"T": 2, "TTTT": 6, "TTF": 5, "TF": 4}),
+            ("drain", 3, {"TTT": 6, "TTFTTTF": 15, "TTFTFTT": 15, "TTFFT": 9, "TTFFTTTT": 6, "TTFFF": 8}),
+        ):
+            for path, last in paths.items():
+                steps = walk(found[name], region, path)
+                self.assertEqual(steps[-1].line if steps else None, last, (name, region, path))
+
     def test_path_that_does_not_fit(self) -> None:
         """A path with too many or too few decisions is laid nowhere."""
         step = every_section().procedures[0]

@@ -7,9 +7,10 @@ import os
 import unittest
 from pathlib import Path
 
-from assess_lib.analysis import analyse, read_source
+from assess_lib.analysis import analyse, read_source, understood
 from assess_lib.check import tell
-from assess_lib.program import Program
+from assess_lib.program import Outcome, Program
+from assess_lib.source import SourceText
 from assess_tests.recorded import HERE, Recorded
 
 Told = tuple[int, int, str, str]
@@ -51,6 +52,7 @@ SLIPS: dict[str, list[Told]] = {
         (9, 1, "E06", "before the first procedure"),
         (10, 1, "E06", "one PRE, before its body"),
     ],
+    "many_faults": [(line, 1, "E05", "written with :=") for line in range(6, 26)],
     "missing_semicolon": [
         (7, 1, "E05", "missing after wish in line 7: the statement goes on with IF"),
         (10, 1, "E05", "missing after ENDIF in line 10"),
@@ -126,6 +128,22 @@ class Slips(unittest.TestCase):
                     self.assertIn(wanted[3], hints)
                     self.assertEqual(bool(wanted[3]), bool(hints), hints)
                 self.assertEqual([fault.further for fault in told], [number > 0 for number in range(len(told))])
+
+    def test_most_faults(self) -> None:
+        """No more than twenty faults of a file are told, and that is said."""
+        found = analyse("many.mal", read_source(str(HERE / "slips" / "many_faults.mal")), Recorded())
+        self.assertEqual(found.faults and found.faults.given_up, "no more than 20 faults are told")
+
+    def test_call_that_does_not_fit(self) -> None:
+        """The hint at a call tells the parameters; malpas has no such refusal yet, so its line stands here."""
+        text = (
+            "TITLE t;\nPROC inc;\nIN by : 0 .. 9;\nINOUT v : 0 .. 9;\nLOCAL w : BOOL;\nPRE TRUE;\nPOST TRUE;\nENDPROC;\n"
+            "PROC p;\nINOUT x : 0 .. 5;\nPRE TRUE;\nPOST TRUE;\nCALL inc (x);\nENDPROC;\nFINISH;\n"
+        )
+        line = f"malpas: E16 at byte {text.index('CALL')}: call does not fit\n"
+        found = understood("t.mal", SourceText(text.encode()), Outcome(2, line), None)
+        assert found.faults is not None
+        self.assertIn("the parameters of inc are IN by, INOUT v", found.faults.told[0].hints[0])
 
     def test_printed_as_compilers_do(self) -> None:
         """The lines of a fault: place and code, source, caret, statement, hint; nothing on standard output."""
