@@ -7,7 +7,7 @@ from typing import Optional
 
 from assess_lib.blocks import CLOSERS, open_blocks
 from assess_lib.case import Case
-from assess_lib.order import Broken, Sort, Stage, first_break, sort_of
+from assess_lib.order import Broken, Sort, Stage, comes_later, first_break, sort_of
 from assess_lib.statements import Statement
 
 
@@ -40,6 +40,8 @@ def out_of_order(case: Case) -> Optional[str]:
         return "FINISH; is the last statement: nothing stands behind it"
     if broken.stage is Stage.VARIABLES:
         return _before_pre(case, broken, sort)
+    if broken.stage is Stage.AFTER_PRE and comes_later(case.statements, broken, Sort.POST):
+        return "between PRE and POST stands nothing"
     if broken.stage is Stage.AFTER_PRE:
         missing = "PRE condition; is followed by POST condition; and POST is missing here"
         return "variables are declared before PRE" if sort is Sort.VARIABLE else missing
@@ -50,6 +52,8 @@ def out_of_order(case: Case) -> Optional[str]:
 
 def _before_pre(case: Case, broken: Broken, sort: Sort) -> str:
     """What is missing among the variables of a procedure."""
+    if comes_later(case.statements, broken, Sort.PRE) and sort is not Sort.HEAD:
+        return "before PRE stand the variables of the procedure alone"
     if sort is Sort.POST:
         return "PRE is missing: PRE condition; stands before POST condition;"
     if sort is Sort.HEAD:

@@ -13,7 +13,7 @@ from assess_lib.blocks import CLOSERS, open_blocks
 from assess_lib.case import Case
 from assess_lib.hints_bytes import other_comment_end
 from assess_lib.hints_forms import swallowed
-from assess_lib.order import Sort, Stage, first_break, sort_of
+from assess_lib.order import Sort, Stage, comes_later, first_break, sort_of
 from assess_lib.outline import MODES, names_declared
 from assess_lib.statements import Statement
 from assess_lib.tokens import KEYWORDS, Kind
@@ -51,11 +51,23 @@ class Lost:
     """The names and labels that the text no longer declares, since their declarations were taken out."""
 
     names: set[str] = field(default_factory=set)
+    unread: bool = False
+
+    def take(self, statement: Statement) -> None:
+        """Notes what a statement that is taken out no longer declares; `unread` where its names can't be read."""
+        names = names_declared(statement)
+        if statement.opening in MODES | {"CONST"}:
+            names += [each.text for each in statement.tokens[1:] if each.kind is Kind.NAME]
+        if statement.opening == "LABEL":
+            names += statement.words[1:2]
+        declares = statement.opening in MODES | {"CONST", "TYPE", "LABEL"}
+        self.unread = self.unread or (declares and not names_declared(statement) and statement.opening != "LABEL")
+        self.names.update(names)
 
     def explains(self, case: Case) -> bool:
         """Whether a fault comes only from what was taken out."""
         if case.refusal.code == "E09":
-            return case.refusal.name in self.names
+            return self.unread or case.refusal.name in self.names
         words = case.statement.words if case.statement else []
         return case.refusal.code == "E07" and words[:1] == ["GOTO"] and words[1:2] != [] and words[1] in self.names
 
@@ -94,15 +106,25 @@ def _without(case: Case, statement: Statement, lost: Lost) -> Optional[Mend]:
     text = _stand_in(case, statement)
     if text is None:
         return None
-    next_one = swallowed(case, statement) if case.refusal.code == "E05" else None
-    after = next_one.first if next_one else statement.after
+    goes_on = _goes_on(case, statement) if case.refusal.code == "E05" else None
+    after = goes_on if goes_on is not None else statement.after
     if case.refusal.code != "E08":
-        lost.names.update(names_declared(statement))
-        if statement.opening in MODES | {"CONST"}:
-            lost.names.update(each.text for each in statement.tokens[1:] if each.kind is Kind.NAME)
-        if statement.opening == "LABEL":
-            lost.names.update(statement.words[1:2])
+        lost.take(statement)
     return Mend(statement.first, after, text)
+
+
+def _goes_on(case: Case, statement: Statement) -> Optional[int]:
+    """The place inside a statement from which on another one stands that is kept, where there is one."""
+    found = swallowed(case, statement)
+    if found is not None:
+        return found.first
+    tokens = statement.tokens
+    for number, token in enumerate(tokens[1:], 1):
+        behind = tokens[number + 1 :]
+        procedure = token.text == "PROC" and len(behind) == 1 and behind[0].kind is Kind.NAME
+        if procedure or (token.text in ("ENDPROC", "FINISH") and not behind):
+            return token.first
+    return None
 
 
 def _bytes(case: Case, lost: Lost) -> Optional[Mend]:
@@ -133,7 +155,12 @@ def _order(case: Case, lost: Lost) -> Optional[Mend]:
         return Mend(place, len(case.text.letters), "")
     if broken.statement is None and broken.stage in (Stage.BODY, Stage.BETWEEN):
         return Mend(place, place, " FINISH;" if broken.stage is Stage.BETWEEN else " ENDPROC; FINISH;")
-    if sort in (Sort.VARIABLE, Sort.HEAD) and broken.stage is not Stage.START:
+    if sort is Sort.HEAD and broken.stage is not Stage.START:
+        return _taken_out(broken.statement, lost)
+    if broken.stage in (Stage.HEAD, Stage.BETWEEN) and sort in (Sort.VARIABLE, Sort.PRE):
+        return Mend(place, place, f"PROC {_fresh(case)}; ")
+    awaited = {Stage.VARIABLES: Sort.PRE, Stage.AFTER_PRE: Sort.POST}.get(broken.stage)
+    if sort is Sort.VARIABLE or (awaited is not None and comes_later(case.statements, broken, awaited)):
         return _taken_out(broken.statement, lost)
     missing = {
         (Stage.START, sort): "TITLE t; ",
@@ -154,7 +181,7 @@ def _taken_out(statement: Optional[Statement], lost: Lost) -> Optional[Mend]:
     """The text without a statement on which no other hangs but by its names."""
     if statement is None:
         return None
-    lost.names.update(names_declared(statement))
+    lost.take(statement)
     return Mend(statement.first, statement.after, "")
 
 

@@ -72,6 +72,21 @@ class Broken:
     seen: set[Sort] = field(default_factory=set)
 
 
+def comes_later(statements: list[Statement], broken: Broken, sort: Sort) -> bool:
+    """Whether a statement of that sort stands behind the break, before the procedure ends or another begins."""
+    if broken.statement is None:
+        return False
+    for statement in statements:
+        if statement.first <= broken.statement.first:
+            continue
+        found = sort_of(statement)
+        if found is sort:
+            return True
+        if found in (Sort.ENDPROC, Sort.PROC, Sort.FINISH):
+            return False
+    return False
+
+
 def first_break(statements: list[Statement]) -> Broken:
     """The first place where the order breaks; at the text's end its `statement` is None."""
     broken = Broken()
