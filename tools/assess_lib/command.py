@@ -3,6 +3,7 @@
 from __future__ import annotations
 
 import argparse
+import io
 import os
 import sys
 from typing import NoReturn, Optional, Sequence
@@ -51,6 +52,14 @@ def _parser() -> argparse.ArgumentParser:
     return parser
 
 
+def _settle_streams(word: str) -> None:
+    """A page is UTF-8, whatever the terminal has; what a terminal can't show is replaced."""
+    for stream in (sys.stdout, sys.stderr):
+        if isinstance(stream, io.TextIOWrapper):
+            page_out = word == "page" and stream is sys.stdout
+            stream.reconfigure(encoding="utf-8" if page_out else stream.encoding, errors="replace")
+
+
 def _run(words: argparse.Namespace) -> int:
     """Does what the words ask for, and answers the exit status."""
     program = find_program(words.program)
@@ -71,6 +80,7 @@ def main(arguments: Optional[Sequence[str]] = None) -> int:
     if words.word is None:
         parser.print_help(sys.stderr)
         return int(Status.WORDS)
+    _settle_streams(words.word)
     try:
         return _run(words)
     except NoProgram as error:

@@ -27,11 +27,6 @@ class NoPicture(Exception):
     reason: str
 
 
-def _quoted(text: str) -> str:
-    """Text as dot reads it in double quotes."""
-    return '"' + text.replace("\\", "\\\\").replace('"', '\\"') + '"'
-
-
 def draw(dot_text: str, title: str, prefix: str) -> Markup:
     """The SVG that dot draws, to stand inside a page: with a title, and identifiers that begin with `prefix`."""
     if shutil.which("dot") is None:

@@ -31,7 +31,7 @@ pre{margin:.3rem 0;padding:.6rem;background:#f7f7f7;overflow:auto;border:1px sol
 dl.head{display:grid;grid-template-columns:max-content 1fr;gap:.15rem 1rem;margin:.5rem 0 1rem}
 dl.head dt{font-weight:600}dl.head dd{margin:0;min-width:0;overflow-wrap:anywhere}.head .mark{white-space:normal}
 .wide{overflow-x:auto;margin:.4rem 0 1rem}
-table{border-collapse:collapse}
+table{border-collapse:collapse}caption{text-align:left}
 th,td{border:1px solid #c9c9c9;padding:.2rem .5rem;text-align:left;vertical-align:top}
 thead th{background:#f2f2f2}
 tbody th{font-weight:600}

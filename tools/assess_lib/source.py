@@ -51,10 +51,6 @@ class SourceText:
         before = self.data[self._starts[line - 1] : max(place, 0)]
         return Position(line, len(before.decode("utf-8", "replace")) + 1)
 
-    def start_of(self, line: int) -> int:
-        """The place of the first byte of a line that is there."""
-        return self._starts[line - 1]
-
     def line_text(self, line: int) -> str:
         """What stands in a line that is there, without its end, as an editor shows it."""
         return self._pieces[line - 1].decode("utf-8", "replace").rstrip("\r")
