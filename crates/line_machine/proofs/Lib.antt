@@ -1,5 +1,5 @@
+pub mod Four
 pub mod NarrowFits
 pub mod LineFitting
 pub mod Ways
 pub mod Arcs
-pub mod Sample

@@ -5,14 +5,14 @@
 //! of the method of inductive assertions (Floyd 1967).
 #![tactic(auto)]
 
+mod bounding;
 mod evaluation;
 mod laws;
 mod running;
 mod stepping;
 
+pub use bounding::{StaticBounds, static_bounds};
+pub use evaluation::{truth_value, whole_value};
 pub use laws::{bounds_hold, division_is_euclidean, steps_stay_inside};
 pub use running::run_to_cut;
 pub use stepping::step;
-
-#[cfg(test)]
-mod tests;

@@ -5,3 +5,5 @@ pub mod Terms
 pub mod Numbered
 pub mod Sharing
 pub mod Memos
+pub mod Composed
+pub mod Comparisons

@@ -4,3 +4,6 @@ pub mod Substitution
 pub mod Measure
 pub mod Grown
 pub mod Nodes
+pub mod Comparison
+pub mod Identity
+pub mod Places

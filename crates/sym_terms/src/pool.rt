@@ -10,7 +10,7 @@ use std::marker::Model;
 
 /// A pool of nodes, each kept once and named by its number. A node names only nodes with lower numbers, so each number
 /// has a term: the tree found by following the numbers. Equal terms have equal numbers.
-#[derive(Debug, Drop)]
+#[derive(Drop)]
 pub struct Pool {
     nodes: IndexSet<TermNode>,
     alloc: Global,
@@ -104,7 +104,8 @@ impl Pool {
     pub fn are_same(&self, a: TermId, b: TermId) -> bool
         requires left { a.index < length self.now }
         requires right { b.index < length self.now }
-        ensures { IsTrue result ↔ (tree_at self.now a ≡ tree_at self.now b) }
+        ensures same { IsTrue result ↔ (tree_at self.now a ≡ tree_at self.now b) }
+        ensures equal { IsTrue result ↔ (a ≡ b) }
     {
         let _first = self.node(a);
         a == b

@@ -1,0 +1,4 @@
+pub mod Nearest
+pub mod Mirrored
+pub mod SlicedLines
+pub mod SliceRuns

@@ -1,0 +1,12 @@
+//! The ways through a line.
+#![tactic(auto)]
+
+mod along;
+mod graph;
+mod laws;
+
+pub use along::Taken;
+pub use graph::{TestGraph, TestNode};
+pub use laws::{
+    one_way_holds, some_way, ways_are_steps, ways_differ, ways_go_along_arcs, ways_speak_of_places,
+};
