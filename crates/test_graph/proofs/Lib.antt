@@ -6,3 +6,6 @@ pub mod Steps
 pub mod Leaves
 pub mod Speaking
 pub mod Changes
+pub mod Standing
+pub mod StandingParts
+pub mod StandingLines

@@ -2,8 +2,12 @@
 #![tactic(auto)]
 
 mod along;
+mod assigning;
 mod graph;
 mod laws;
+mod lines;
+mod lowering;
+mod term;
 
 pub use along::Taken;
 pub use graph::{TestGraph, TestNode};
