@@ -9,3 +9,4 @@ pub mod Changes
 pub mod Standing
 pub mod StandingParts
 pub mod StandingLines
+pub mod StandingProcedure

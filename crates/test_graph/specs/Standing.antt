@@ -1,6 +1,10 @@
 -- Nodes that are added one behind the other, and the decisions that stand from a node on.
 use Rattle.std.specs.Prelude.{◌≡◌, ℕ, ◌<◌, ◌≤◌, List, length, slice_get, Some}
-use Rattle.test_graph.specs.Decision.{Decision}
+use Rattle.il_core.specs.declared.line.Next.{Next}
+use Rattle.il_core.specs.declared.line.Next.TheVariants.{At, Halted}
+use Rattle.il_core.specs.Procedure.{Procedure}
+use Rattle.test_graph.specs.Decision.{Decision, decision_at}
+use Rattle.test_graph.specs.declared.graph.TestNode.TheVariants.{AtLine}
 use Rattle.test_graph.specs.Lowered.{Unfolds, NamesLower}
 use Rattle.test_graph.specs.declared.graph.TestNode.{TestNode}
 
@@ -20,3 +24,19 @@ pub record Stands (entries : List ℕ) (nodes : List TestNode) (id : ℕ) (d : D
 -- each of the first lines has the node of its own number
 pub record AreOwn (count : ℕ) (entries : List ℕ) : Type 0 where
   pub each : (pc : ℕ) → pc < count → slice_get entries pc ≡ Some pc
+
+-- the next line is one of the first lines
+abbrev pub IsInside : ℕ → Next → Type 0
+IsInside count (At q) = q < count
+IsInside count (Halted h) = Unit {0}
+
+-- the first nodes are those of the lines
+pub record AreLines (count : ℕ) (nodes : List TestNode) : Type 0 where
+  pub long : count ≤ length nodes
+  pub each : (pc : ℕ) → pc < count → (first : ℕ) × (slice_get nodes pc ≡ Some (AtLine pc first))
+
+-- the decisions of each line below pc stand behind the line's node
+pub record AreLowered (p : Procedure) (count pc : ℕ) (nodes : List TestNode) : Type 0 where
+  pub lines : AreLines count nodes
+  pub falls : Fall nodes
+  pub each : (k : ℕ) → k < pc → (first : ℕ) × (slice_get nodes k ≡ Some (AtLine k first)) × ((entries : List ℕ) → AreOwn count entries → Stands entries nodes first (decision_at p k))
