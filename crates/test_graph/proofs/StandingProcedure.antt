@@ -1,17 +1,18 @@
 -- The graph of a procedure grows line by line.
-use Rattle.std.proofs.Common.{◌≡◌, ◌≢◌, refl, sym, ap, subst, ◌∙◌, ℕ, zero, suc, ◌+◌, ◌<◌, ◌≤◌, Option, Some, None, List, [], ◌∷◌, ◌++◌, map, length, slice_get, slice_set, length-set, inl, inr, arith}
+use Rattle.std.proofs.Common.{◌≡◌, ◌≢◌, refl, sym, ap, subst, ◌∙◌, ℕ, zero, suc, ◌+◌, ◌<◌, ◌≤◌, Option, Some, None, List, [], ◌∷◌, ◌++◌, map, length, slice_get, slice_set, length-set, length-append, inl, inr, arith}
 use Rattle.std.proofs.lemmas.List.{length-map}
 use Rattle.std.proofs.lemmas.Bool.Decides.{eqb_tells}
-use Rattle.std.proofs.lemmas.Option.{slice_get-map}
+use Rattle.std.proofs.lemmas.Option.{slice_get-map, slice_get_within}
 use Rattle.std.specs.Option.{option_map}
 use Rattle.il_core.specs.Procedure.{Procedure, instruction_of}
-use Rattle.il_core.specs.Checked.{NamedProcedure, procedure_of}
+use Rattle.il_core.specs.Checked.{NamedProcedure, IsChecked, FitsAt, procedure_of}
+use Rattle.il_core.specs.declared.line.Place.{Place}
 use Rattle.il_core.specs.declared.line.Line.{Line}
 use Rattle.il_core.specs.declared.line.Next.{Next}
 use Rattle.il_core.specs.declared.line.Next.TheVariants.{At, Halted}
 use Rattle.test_graph.specs.Decision.{Change, Decision, ask, done, decision_of, decision_there, decision_at}
 use Rattle.test_graph.specs.Lowered.{LeadsTo, Changes, Unfolds, NamesLower, IsEntry, IsLowered}
-use Rattle.test_graph.specs.Standing.{Grows, Fall, Stands, AreOwn, AreLines, AreLowered}
+use Rattle.test_graph.specs.Standing.{Grows, Fall, Stands, AreOwn, AreLines, AreLowered, begun, numbers}
 use Rattle.test_graph.specs.declared.graph.TestNode.{TestNode}
 use Rattle.test_graph.specs.declared.graph.TestNode.TheVariants.{Test, Assign, AtLine, Stop}
 use Rattle.test_graph.specs.declared.graph.TestGraph.{TestGraph}
@@ -131,3 +132,95 @@ pub line_decision : (p : NamedProcedure) (pc : ℕ) (line : Line) → slice_get 
     → decision_of p.places pc (instruction_of line) ≡ decision_at (procedure_of p) pc
 unfolding decision_at
 line_decision p pc line h = sym (ap (decision_there p.places pc) (slice_get-map instruction_of p.lines pc ∙ ap (option_map instruction_of) h))
+
+length-begun : (n : ℕ) → length (begun n) ≡ n
+length-begun zero = refl
+length-begun (suc n) = omega (arith, length-append (begun n) (AtLine n n ∷ []), length-begun n)
+
+at-end : {A : Type 0} (xs : List A) (x : A) → slice_get (xs ++ x ∷ []) (length xs) ≡ Some x
+at-end [] x = refl
+at-end (y ∷ ys) x = at-end ys x
+
+before-end : {A : Type 0} (xs : List A) (x y : A) (k : ℕ) → slice_get xs k ≡ Some y → slice_get (xs ++ x ∷ []) k ≡ Some y
+before-end [] x y k h = absurd (cc)
+before-end (z ∷ zs) x y zero h = h
+before-end (z ∷ zs) x y (suc k) h = before-end zs x y k h
+
+begun-at : (n k : ℕ) → k < n → slice_get (begun n) k ≡ Some (AtLine k k)
+begun-at zero k h = absurd (omega arith)
+begun-at (suc n) k h = elim (eqb_tells k n) [
+  | inl same ↦
+      let seam : slice_get (begun n ++ AtLine n n ∷ []) (length (begun n)) ≡ Some (AtLine n n) = at-end (begun n) (AtLine n n) in
+      rw (same.1) (rw (length-begun n) at seam)
+  | inr differ ↦ before-end (begun n) (AtLine n n) (AtLine k k) k (begun-at n k (omega (arith, h, differ.1)))
+]
+
+-- before the first line is lowered
+pub none_lowered : (p : Procedure) (n : ℕ) → AreLowered p n 0 (begun n)
+none_lowered p n =
+    record {
+      lines = record { long = omega (arith, length-begun n); each = λ pc h. (pc, begun-at n pc h) };
+      falls = record { each = falls };
+      each = λ k h. absurd (omega arith);
+    }
+  where
+    some-same : (x y : TestNode) → Some x ≡ Some y → x ≡ y
+    some-same x y e = cc
+
+    falls : (id : ℕ) (node : TestNode) → slice_get (begun n) id ≡ Some node → NamesLower id node
+    falls id node h =
+        let below : id < n = omega (arith, slice_get_within (begun n) id node h, length-begun n) in
+        subst (λ (x : TestNode). NamesLower id x) (some-same (AtLine id id) node (sym (begun-at n id below) ∙ h)) tt
+
+pub length-numbers : (n : ℕ) → length (numbers n) ≡ n
+length-numbers zero = refl
+length-numbers (suc n) = omega (arith, length-append (numbers n) (n ∷ []), length-numbers n)
+
+numbers-at : (n k : ℕ) → k < n → slice_get (numbers n) k ≡ Some k
+numbers-at zero k h = absurd (omega arith)
+numbers-at (suc n) k h = elim (eqb_tells k n) [
+  | inl same ↦
+      let seam : slice_get (numbers n ++ n ∷ []) (length (numbers n)) ≡ Some n = at-end (numbers n) n in
+      rw (same.1) (rw (length-numbers n) at seam)
+  | inr differ ↦ before-end (numbers n) n k k (numbers-at n k (omega (arith, h, differ.1)))
+]
+
+pub own_numbers : (n : ℕ) → AreOwn n (numbers n)
+own_numbers n = record { each = numbers-at n }
+
+-- each line fits where it stands
+pub fits_there : (p : NamedProcedure) (places : List Place) (lines : List Line) (pc : ℕ) (line : Line) → IsChecked (procedure_of p) → places ≡ p.places
+    → lines ≡ p.lines → slice_get lines pc ≡ Some line → FitsAt places (length lines) pc (instruction_of line)
+fits_there p places lines pc line c e f there =
+    let here : slice_get p.lines pc ≡ Some line = ap (λ (ls : List Line). slice_get ls pc) (sym f) ∙ there in
+    let long : length (map instruction_of p.lines) ≡ length lines = length-map p.lines instruction_of ∙ ap (λ (ls : List Line). length ls) (sym f) in
+    subst (λ (ps : List Place). FitsAt ps (length lines) pc (instruction_of line)) (sym e)
+    (subst (λ n. FitsAt p.places n pc (instruction_of line)) long
+    (c.fits pc (instruction_of line) (slice_get-map instruction_of p.lines pc ∙ ap (option_map instruction_of) here)))
+
+-- one line more of a procedure
+pub line_more : (p : NamedProcedure) (places : List Place) (lines : List Line) (line : Line) (pc first : ℕ) (n0 n1 n2 : List TestNode) → places ≡ p.places
+    → lines ≡ p.lines → slice_get lines pc ≡ Some line → pc < length lines → AreLowered (procedure_of p) (length lines) pc n0 → Grows n0 n1 → Fall n1
+    → ((entries : List ℕ) → AreOwn (length lines) entries → Stands entries n1 first (decision_of places pc (instruction_of line)))
+    → n2 ≡ slice_set n1 pc (AtLine pc first) → AreLowered (procedure_of p) (length lines) (pc + 1) n2
+line_more p places lines line pc first n0 n1 n2 e f there below l g h s k =
+    let here : slice_get p.lines pc ≡ Some line = ap (λ (ls : List Line). slice_get ls pc) (sym f) ∙ there in
+    let same : decision_of places pc (instruction_of line) ≡ decision_at (procedure_of p) pc =
+    ap (λ (ps : List Place). decision_of ps pc (instruction_of line)) e ∙ line_decision p pc line here in
+    subst (λ (ns : List TestNode). AreLowered (procedure_of p) (length lines) (pc + 1) ns) (sym k)
+    (one_line_more (procedure_of p) (length lines) pc first n0 n1 below l g h
+    (λ entries own. subst (λ (d : Decision). Stands entries n1 first d) same (s entries own)))
+
+-- all lines of a procedure
+pub graph_lowered : (p : NamedProcedure) (lines : List Line) (pc : ℕ) (nodes ns : List TestNode) (entries es : List ℕ) → lines ≡ p.lines → length lines ≤ pc
+    → pc ≤ length lines → AreLowered (procedure_of p) (length lines) pc nodes → ns ≡ nodes → es ≡ entries → entries ≡ numbers (length lines)
+    → IsLowered (procedure_of p) (record { nodes = ns; entries = es })
+graph_lowered p lines pc nodes ns entries es f low high l g h k =
+    let long : length lines ≡ length (map instruction_of p.lines) = ap (λ (ls : List Line). length ls) f ∙ sym (length-map p.lines instruction_of) in
+    let all : pc ≡ length lines = omega arith in
+    let own : es ≡ numbers (length lines) = h ∙ k in
+    all_lowered (procedure_of p) (length lines) (record { nodes = ns; entries = es }) long
+    (ap (λ (xs : List ℕ). length xs) own ∙ length-numbers (length lines))
+    (subst (λ (xs : List ℕ). AreOwn (length lines) xs) (sym own) (own_numbers (length lines)))
+    (subst (λ (xs : List TestNode). AreLowered (procedure_of p) (length lines) (length lines) xs) (sym g)
+    (subst (λ n. AreLowered (procedure_of p) (length lines) n nodes) all l))

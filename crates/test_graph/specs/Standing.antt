@@ -1,5 +1,5 @@
 -- Nodes that are added one behind the other, and the decisions that stand from a node on.
-use Rattle.std.specs.Prelude.{◌≡◌, ℕ, ◌<◌, ◌≤◌, List, length, slice_get, Some}
+use Rattle.std.specs.Prelude.{◌≡◌, ℕ, zero, suc, ◌+◌, ◌<◌, ◌≤◌, List, [], ◌∷◌, ◌++◌, length, slice_get, Some}
 use Rattle.il_core.specs.declared.line.Next.{Next}
 use Rattle.il_core.specs.declared.line.Next.TheVariants.{At, Halted}
 use Rattle.il_core.specs.Procedure.{Procedure}
@@ -40,3 +40,13 @@ pub record AreLowered (p : Procedure) (count pc : ℕ) (nodes : List TestNode) :
   pub lines : AreLines count nodes
   pub falls : Fall nodes
   pub each : (k : ℕ) → k < pc → (first : ℕ) × (slice_get nodes k ≡ Some (AtLine k first)) × ((entries : List ℕ) → AreOwn count entries → Stands entries nodes first (decision_at p k))
+
+-- the nodes of the first lines, of which none is lowered yet
+abbrev pub begun : ℕ → List TestNode
+begun zero = []
+begun (suc n) = begun n ++ AtLine n n ∷ []
+
+-- the first numbers in order
+abbrev pub numbers : ℕ → List ℕ
+numbers zero = []
+numbers (suc n) = numbers n ++ n ∷ []

@@ -6,12 +6,13 @@ ghost use Rattle.il_core.specs.Bounds.{IsNarrow};
 ghost use Rattle.il_core.specs.Checked.{FitsAt, procedure_of};
 ghost use Rattle.test_graph.specs.Decision.{Decision, done, halts, decided_on, decision_of};
 ghost use Rattle.test_graph.specs.Lowered.{IsLowered};
-ghost use Rattle.test_graph.specs.Standing.{Grows, Fall, Stands, AreOwn, IsInside};
+ghost use Rattle.test_graph.specs.declared.graph.TestNode.TheVariants as node;
+ghost use Rattle.test_graph.specs.Standing.{Grows, Fall, Stands, AreOwn, IsInside, begun, numbers};
 
 use crate::assigning::lower_assignment;
 use crate::lowering::{lower_condition, put_stop};
-use crate::TestNode;
-use il_core::{CheckedProc, Expr, Halt, Line, NoMemory, Next, Place};
+use crate::{TestGraph, TestNode};
+use il_core::{CheckedProc, Expr, Halt, Line, List, Next, NoMemory, Place};
 use std::alloc::Global;
 
 /// The node of a line, or a new one of a halt. The first `count` nodes are those of the lines.
@@ -23,7 +24,7 @@ fn put_next(nodes: &mut Vec<TestNode>, count: usize, next: Next) -> Result<usize
     ensures within { IfOk result (λ id. id < length nodes.new.items) }
     ensures grows { Grows nodes.old.items nodes.new.items }
     ensures falls { Fall nodes.new.items }
-    ensures stands { IfOk result (λ id. (entries : List ℕ) → AreOwn count entries → Stands entries nodes.new.items id (done None next)) }
+    ensures stands { IfOk result (λ id. (entries : _) → AreOwn count entries → Stands entries nodes.new.items id (done None next)) }
 {
     match next {
         Next::At(line) => Ok(line),
@@ -51,7 +52,7 @@ fn lower_between(
     ensures within { IfOk result (λ id. id < length nodes.new.items) }
     ensures grows { Grows nodes.old.items nodes.new.items }
     ensures falls { Fall nodes.new.items }
-    ensures stands { IfOk result (λ id. (entries : List ℕ) → AreOwn count entries → Stands entries nodes.new.items id (decided_on places.now (expression_of expr.now) (done None on) (done None off) (halts (Halt.DivZero pc)))) }
+    ensures stands { IfOk result (λ id. (entries : _) → AreOwn count entries → Stands entries nodes.new.items id (decided_on places.now (expression_of expr.now) (done None on) (done None off) (halts (Halt.DivZero pc)))) }
 {
     let met = put_next(nodes, count, on)?;
     let unmet = put_next(nodes, count, off)?;
@@ -77,7 +78,7 @@ fn lower_line(
     ensures within { IfOk result (λ id. id < length nodes.new.items) }
     ensures grows { Grows nodes.old.items nodes.new.items }
     ensures falls { Fall nodes.new.items }
-    ensures stands { IfOk result (λ id. (entries : List ℕ) → AreOwn count entries → Stands entries nodes.new.items id (decision_of places.now pc (instruction_of line.now))) }
+    ensures stands { IfOk result (λ id. (entries : _) → AreOwn count entries → Stands entries nodes.new.items id (decision_of places.now pc (instruction_of line.now))) }
 {
     match line {
         Line::Pre(e) => {
@@ -109,4 +110,69 @@ fn lower_line(
         | Line::Return(target) => Ok(*target),
         Line::EndIf | Line::Loop | Line::Label | Line::Skip => Ok(pc + 1),
     }
+}
+
+/// The nodes of the first `count` lines, of which none is lowered yet.
+fn line_nodes(alloc: Global, count: usize) -> Result<Vec<TestNode>, NoMemory>
+    ensures { IfOk result (λ nodes. nodes.items ≡ begun count) }
+{
+    let mut nodes = Vec::with_capacity(alloc, count)?;
+    for pc in 0..count {
+        nodes.push(TestNode::AtLine(pc, pc))?;
+    }
+    Ok(nodes)
+}
+
+/// The numbers of these nodes.
+fn line_entries(alloc: Global, count: usize) -> Result<Vec<usize>, NoMemory>
+    ensures { IfOk result (λ entries. entries.items ≡ numbers count) }
+{
+    let mut entries = Vec::with_capacity(alloc, count)?;
+    for pc in 0..count {
+        entries.push(pc)?;
+    }
+    Ok(entries)
+}
+
+/// Gives the node of a line the first node of the line's decisions.
+fn set_first(nodes: &mut Vec<TestNode>, pc: usize, first: usize)
+    requires { pc < length nodes.old.items }
+    ensures { nodes.new.items ≡ slice_set nodes.old.items pc (node.AtLine pc first) }
+{
+    nodes[pc] = TestNode::AtLine(pc, first);
+}
+
+/// The line of this number.
+fn line_at(lines: &[Line], pc: usize) -> &Line
+    requires { pc < length lines.now }
+    ensures { slice_get lines.now pc ≡ Some result.now }
+{
+    &lines[pc]
+}
+
+/// The graph of a checked procedure's lines: behind the node of each line stand exactly the line's decisions, each a
+/// test whose true side comes first, then its assignment, where it has one, and then the node of the next line or a
+/// halt. From each line and each state in range they give the step of the line machine.
+///
+/// Tests and assignments name nodes with lower numbers, so a walk over them ends at a line or a halt. Each part of a
+/// condition adds its nodes once, however many ways lead through it, so time and nodes are linear in the length of the
+/// lines, but for the terms of divisors and of values with a range test, which stand in their tests too. There may be
+/// nodes that no other names.
+pub fn lower(alloc: Global, proc: &CheckedProc) -> Result<TestGraph, NoMemory>
+    ensures { IfOk result (λ g. IsLowered (procedure_of proc.now) g) }
+{
+    let places = proc.places().as_slice();
+    let lines = proc.lines().as_slice();
+    let count = lines.len();
+    let mut nodes = line_nodes(alloc, count)?;
+    for pc in 0..count {
+        let line = line_at(lines, pc);
+        let first = lower_line(alloc, &mut nodes, places, count, pc, line)?;
+        set_first(&mut nodes, pc, first);
+    }
+    let entries = line_entries(alloc, count)?;
+    Ok(TestGraph {
+        nodes: List::from_vec(nodes),
+        entries: List::from_vec(entries),
+    })
 }
