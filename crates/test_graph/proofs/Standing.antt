@@ -1,9 +1,8 @@
 -- Decisions that stand still stand when nodes are added.
-use Rattle.std.proofs.Common.{◌≡◌, refl, sym, ap, subst, ◌∙◌, ℕ, zero, suc, ◌+◌, ◌<◌, ◌≤◌, Bool, true, false, Option, Some, None, List, [], ◌∷◌, ◌++◌, length, slice_get, length-append, ◌⊎◌, inl, inr, arith}
+use Rattle.std.proofs.Common.{◌≡◌, refl, sym, ap, subst, ℕ, zero, suc, ◌+◌, ◌<◌, Option, Some, None, List, [], ◌∷◌, ◌++◌, length, slice_get, length-append, ◌⊎◌, inl, inr, arith}
 use Rattle.il_core.specs.declared.line.Next.{Next}
 use Rattle.il_core.specs.declared.line.Next.TheVariants.{At, Halted}
 use Rattle.il_core.specs.declared.line.Halt.{Halt}
-use Rattle.il_core.specs.declared.operator.Relation.{Relation}
 use Rattle.sym_terms.specs.Tree.{tree_of}
 use Rattle.sym_terms.specs.Comparison.{comparison_of}
 use Rattle.sym_terms.specs.declared.term.Term.{Term}
@@ -12,7 +11,7 @@ use Rattle.test_graph.specs.Decision.{Change, Decision, ask, done, halts}
 use Rattle.test_graph.specs.Lowered.{LeadsTo, Changes, Unfolds, NamesLower}
 use Rattle.test_graph.specs.Standing.{Grows, Fall, Stands}
 use Rattle.test_graph.specs.declared.graph.TestNode.{TestNode}
-use Rattle.test_graph.specs.declared.graph.TestNode.TheVariants.{Test, Assign, AtLine, Stop}
+use Rattle.test_graph.specs.declared.graph.TestNode.TheVariants.{Test, Assign, Stop}
 
 pub grows_same : (nodes : List TestNode) → Grows nodes nodes
 grows_same nodes = record { longer = omega arith; kept = λ id node h. h }

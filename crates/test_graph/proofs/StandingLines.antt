@@ -1,5 +1,5 @@
 -- The decisions of a line stand where its nodes do.
-use Rattle.std.proofs.Common.{◌≡◌, refl, sym, subst, ℕ, ◌+◌, ◌<◌, pos, Bool, true, false, cond, Option, Some, None, List, slice_get, Result, Ok, Err, IfOk}
+use Rattle.std.proofs.Common.{◌≡◌, subst, ℕ, ◌+◌, ◌<◌, pos, true, false, Option, Some, None, List, slice_get, Result, Ok, Err, IfOk}
 use Rattle.std.specs.Prelude.{int_lt}
 use Rattle.il_core.specs.Expression.{Expression}
 use Rattle.il_core.specs.declared.memory.NoMemory.{NoMemory}
@@ -11,9 +11,9 @@ use Rattle.il_core.specs.declared.line.Halt.{Halt}
 use Rattle.il_core.specs.declared.line.Halt.TheVariants.{DivZero, Range}
 use Rattle.il_core.specs.declared.operator.Relation.TheVariants.{Le, Ge}
 use Rattle.sym_terms.specs.Tree.{Tree, number}
-use Rattle.test_graph.specs.Decision.{Change, Decision, ask, done, halts, goes_to, sets, at_least, at_most, ranged, whole_given, bit_given, flag_given, given_to, divided, decided_on}
+use Rattle.test_graph.specs.Decision.{Decision, ask, done, halts, sets, at_least, at_most, ranged, whole_given, bit_given, flag_given, given_to, divided, decided_on}
 use Rattle.test_graph.specs.Term.{term_of}
-use Rattle.test_graph.specs.Standing.{Grows, Fall, Stands, AreOwn}
+use Rattle.test_graph.specs.Standing.{Grows, Stands, AreOwn}
 use Rattle.test_graph.specs.declared.graph.TestNode.{TestNode}
 use Rattle.test_graph.proofs.Standing.{grows_same, grows_on, stands_kept}
 

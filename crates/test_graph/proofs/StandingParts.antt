@@ -1,5 +1,5 @@
 -- The decisions of the parts of an expression stand where the nodes of the parts do.
-use Rattle.std.proofs.Common.{◌≡◌, refl, sym, subst, ℕ, pos, Bool, true, false, cond, List, Result, Ok, Err, IfOk}
+use Rattle.std.proofs.Common.{◌≡◌, sym, subst, ℕ, pos, true, false, List, Result, Ok, Err, IfOk}
 use Rattle.il_core.specs.Expression.{Expression, two}
 use Rattle.il_core.specs.declared.operator.BinOp.{BinOp}
 use Rattle.il_core.specs.declared.memory.NoMemory.{NoMemory}
@@ -10,7 +10,7 @@ use Rattle.il_core.specs.declared.operator.Relation.TheVariants.{Ne}
 use Rattle.sym_terms.specs.Tree.{Tree, number}
 use Rattle.test_graph.specs.Term.{term_of}
 use Rattle.test_graph.specs.Decision.{Decision, ask, holds_zero, not_zero, guarded, divided}
-use Rattle.test_graph.specs.Standing.{Grows, Fall, Stands}
+use Rattle.test_graph.specs.Standing.{Grows, Stands}
 use Rattle.test_graph.specs.declared.graph.TestNode.{TestNode}
 use Rattle.test_graph.proofs.Standing.{grows_same, grows_on, stands_kept}
 

@@ -11,8 +11,8 @@ use Rattle.il_core.specs.declared.line.Line.{Line}
 use Rattle.il_core.specs.declared.line.Next.{Next}
 use Rattle.il_core.specs.declared.line.Next.TheVariants.{At, Halted}
 use Rattle.test_graph.specs.Decision.{Change, Decision, ask, done, decision_of, decision_there, decision_at}
-use Rattle.test_graph.specs.Lowered.{LeadsTo, Changes, Unfolds, NamesLower, IsEntry, IsLowered}
-use Rattle.test_graph.specs.Standing.{Grows, Fall, Stands, AreOwn, AreLines, AreLowered, begun, numbers}
+use Rattle.test_graph.specs.Lowered.{LeadsTo, Changes, Unfolds, NamesLower, IsLowered}
+use Rattle.test_graph.specs.Standing.{Grows, Fall, Stands, AreOwn, AreLowered, begun, numbers}
 use Rattle.test_graph.specs.declared.graph.TestNode.{TestNode}
 use Rattle.test_graph.specs.declared.graph.TestNode.TheVariants.{Test, Assign, AtLine, Stop}
 use Rattle.test_graph.specs.declared.graph.TestGraph.{TestGraph}

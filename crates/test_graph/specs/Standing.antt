@@ -1,5 +1,5 @@
 -- Nodes that are added one behind the other, and the decisions that stand from a node on.
-use Rattle.std.specs.Prelude.{◌≡◌, ℕ, zero, suc, ◌+◌, ◌<◌, ◌≤◌, List, [], ◌∷◌, ◌++◌, length, slice_get, Some}
+use Rattle.std.specs.Prelude.{◌≡◌, ℕ, zero, suc, ◌<◌, ◌≤◌, List, [], ◌∷◌, ◌++◌, length, slice_get, Some}
 use Rattle.il_core.specs.declared.line.Next.{Next}
 use Rattle.il_core.specs.declared.line.Next.TheVariants.{At, Halted}
 use Rattle.il_core.specs.Procedure.{Procedure}

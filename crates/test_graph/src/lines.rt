@@ -83,7 +83,16 @@ fn lower_line(
     match line {
         Line::Pre(e) => {
             let outside = Next::Halted(Halt::Outside);
-            lower_between(alloc, nodes, places, count, pc, e, Next::At(pc + 1), outside)
+            lower_between(
+                alloc,
+                nodes,
+                places,
+                count,
+                pc,
+                e,
+                Next::At(pc + 1),
+                outside,
+            )
         }
         Line::Assign(index, e) => lower_assignment(alloc, nodes, places, pc, *index, e),
         Line::If(e, target) => {

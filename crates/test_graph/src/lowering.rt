@@ -123,14 +123,7 @@ fn lower_divisor(
 {
     if holds_zero(static_bounds(places, divisor)) {
         let left = term_of(alloc, divisor)?;
-        put_test(
-            nodes,
-            left,
-            Relation::Ne,
-            Term::Num(0),
-            rest,
-            fault,
-        )
+        put_test(nodes, left, Relation::Ne, Term::Num(0), rest, fault)
     } else {
         Ok(rest)
     }

@@ -15,10 +15,7 @@ use sym_terms::Term;
 fn opposite(alloc: Global, term: Term) -> Result<Term, NoMemory>
     ensures { IfOk result (λ t. tree_of t ≡ spec.opposite_term (tree_of term)) }
 {
-    Ok(Term::Mul(
-        Box::new(alloc, Term::Num(-1))?,
-        Box::new(alloc, term)?,
-    ))
+    Ok(Term::Mul(Box::new(alloc, Term::Num(-1))?, Box::new(alloc, term)?))
 }
 
 /// The term of an operator between two terms; 0 where it is none for whole numbers.
@@ -26,26 +23,14 @@ fn of_operator(alloc: Global, op: BinOp, left: Term, right: Term) -> Result<Term
     ensures { IfOk result (λ t. tree_of t ≡ spec.operator_term op (tree_of left) (tree_of right)) }
 {
     match op {
-        BinOp::Add => Ok(Term::Add(
-            Box::new(alloc, left)?,
-            Box::new(alloc, right)?,
-        )),
+        BinOp::Add => Ok(Term::Add(Box::new(alloc, left)?, Box::new(alloc, right)?)),
         BinOp::Sub => Ok(Term::Add(
             Box::new(alloc, left)?,
             Box::new(alloc, opposite(alloc, right)?)?,
         )),
-        BinOp::Mul => Ok(Term::Mul(
-            Box::new(alloc, left)?,
-            Box::new(alloc, right)?,
-        )),
-        BinOp::Div => Ok(Term::Div(
-            Box::new(alloc, left)?,
-            Box::new(alloc, right)?,
-        )),
-        BinOp::Mod => Ok(Term::Mod(
-            Box::new(alloc, left)?,
-            Box::new(alloc, right)?,
-        )),
+        BinOp::Mul => Ok(Term::Mul(Box::new(alloc, left)?, Box::new(alloc, right)?)),
+        BinOp::Div => Ok(Term::Div(Box::new(alloc, left)?, Box::new(alloc, right)?)),
+        BinOp::Mod => Ok(Term::Mod(Box::new(alloc, left)?, Box::new(alloc, right)?)),
         BinOp::Compare(_) | BinOp::And | BinOp::Or => Ok(Term::Num(0)),
     }
 }

@@ -1,4 +1,4 @@
-use Rattle.std.proofs.Common.{◌≡◌, ◌∙◌, sym, ap, None, slice_get}
+use Rattle.std.proofs.Common.{◌∙◌, sym, ap, slice_get}
 use Rattle.std.specs.Option.{option_copied}
 use Rattle.il_core.specs.Expression.{expression_of}
 use Rattle.test_graph.proofs.StandingLines.{missing_stands}

@@ -1,4 +1,3 @@
-use Rattle.std.proofs.Common.{length}
 use Rattle.il_core.specs.Checked.{procedure_of}
 use Rattle.test_graph.specs.Standing.{AreLowered}
 use Rattle.test_graph.proofs.lines.lower.Given as goal

@@ -1,4 +1,4 @@
-use Rattle.std.proofs.Common.{◌≡◌, ap, ◌∙◌, rules}
+use Rattle.std.proofs.Common.{◌≡◌}
 use Rattle.il_core.specs.Expression.{expression_of, two}
 use Rattle.test_graph.proofs.StandingParts.{two_stand}
 use Rattle.test_graph.proofs.lowering.+lower_divisors.Goals as goal
