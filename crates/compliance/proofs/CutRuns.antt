@@ -1,9 +1,9 @@
 -- A run is cut at marked lines. Where each piece of it that begins well ends well, no run that begins well halts badly, however long it is.
-use Rattle.std.proofs.Common.{◌≡◌, refl, sym, ap, ◌∙◌, subst, ℕ, zero, suc, ◌+◌, ◌<◌, Bool, true, false, List, arith}
+use Rattle.std.proofs.Common.{◌≡◌, refl, sym, ap, ◌∙◌, subst, ℕ, zero, suc, ◌<◌, Bool, false, List, arith}
 use Rattle.il_core.specs.Evaluation.{State}
-use Rattle.il_core.specs.Machine.{Step, goes, stays, step}
+use Rattle.il_core.specs.Machine.{Step, step}
 use Rattle.il_core.specs.Procedure.{Procedure}
-use Rattle.il_core.specs.Run.{Steps, HaltsAfter, is_bad}
+use Rattle.il_core.specs.Run.{HaltsAfter, is_bad}
 use Rattle.il_core.specs.declared.line.Halt.{Halt}
 use Rattle.il_core.specs.declared.line.Next.{Next}
 use Rattle.il_core.specs.declared.line.Next.TheVariants as next
@@ -92,7 +92,7 @@ runs_within p cuts good pieces zero n pc s halt to_s f g h = absurd (omega arith
 runs_within p cuts good pieces (suc fuel) n pc s halt to_s f g h =
     let t = pieces pc s g in
     by_end (λ m q mid l k r. runs_within p cuts good pieces fuel m q mid halt to_s (omega (arith, l, f)) k r) t.end t.to_s t.well
-      (piece p cuts t.count n pc s t.end t.to_s halt to_s t.reaches h)
+    (piece p cuts t.count n pc s t.end t.to_s halt to_s t.reaches h)
   where
     by_end : ((m q : ℕ) (mid : State) → m < n → good q mid → HaltsAfter p m q mid halt to_s → is_bad halt ≡ false)
         → (end : Stop) (mid : State) → EndsWell good end mid → Leaves p n halt to_s end mid → is_bad halt ≡ false

@@ -1,13 +1,13 @@
 -- The leading assertions of a head follow one another: the first is the head, or stands behind it, and each other one behind the one before.
-use Rattle.std.proofs.Common.{◌≡◌, ◌⊎◌, inl, inr, refl, sym, ap, ◌∙◌, subst, ℕ, zero, suc, ◌+◌, ◌<◌, ◌≤◌, Some, List, [], ◌∷◌, length, get_or, arith}
+use Rattle.std.proofs.Common.{◌≡◌, inl, inr, refl, sym, ◌∙◌, subst, ℕ, suc, ◌+◌, ◌<◌, ◌≤◌, Some, List, [], ◌∷◌, arith}
 use Rattle.std.specs.List.{AllPairs}
 use Rattle.std.proofs.lemmas.List.Kept.{AllPairs-from_increasing}
 use Rattle.il_core.specs.LineGraph.{IsIn}
 use Rattle.flow_graph.specs.Reached.{Lists}
 use Rattle.flow_graph.specs.declared.graph.Node.{Node}
-use Rattle.flow_graph.specs.declared.graph.NodeKind.{NodeKind}
 use Rattle.flow_graph.specs.declared.graph.NodeKind.TheVariants.{Assertion, Plain}
-use Rattle.control_flow.specs.Loop.{kind_at, BeginsAt, IsLeading}
+use Rattle.control_flow.specs.Loop.{BeginsAt, IsLeading}
+use Rattle.compliance.proofs.Members.{place_of}
 
 -- lines that follow one another, the first of which is line a
 abbrev pub FollowOn : ℕ → List ℕ → Type 0
@@ -18,11 +18,6 @@ FollowOn a (b ∷ lines) = (b ≡ a) × FollowOn (a + 1) lines
 abbrev Rise : List ℕ → Type 0
 Rise [] = Unit {0}
 Rise (b ∷ rest) = ((k : ℕ) → IsIn rest k → b < k) × Rise rest
-
-place_of : (xs : List ℕ) (k : ℕ) → IsIn xs k → (m : ℕ) × (m < length xs) × (get_or xs m 0 ≡ k)
-place_of [] k i = absurd i
-place_of (x ∷ xs) k (inl e) = (0, omega arith, e)
-place_of (x ∷ xs) k (inr i) = let t = place_of xs k i in let b = t.1 in (suc t.0, omega (arith, b), t.2)
 
 rises : (xs : List ℕ) → AllPairs (λ x y. x < y) xs → Rise xs
 rises [] h = tt

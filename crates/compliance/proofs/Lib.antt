@@ -1,10 +1,12 @@
+pub mod Members
 pub mod CutRuns
 pub mod QuietLines
 pub mod Openings
-pub mod NoBadRun
 pub mod Following
-pub mod Taking
+pub mod ShortPaths
+pub mod NoBadRun
 pub mod SafeLists
+pub mod Taking
+pub mod TakenBack
 pub mod Verdicts
 pub mod OneVerdict
-pub mod TakenBack

@@ -1,14 +1,15 @@
 -- Where each threat is plainly refuted, no run halts badly: from an input of a region that has passed the region's opening, a piece of the run
 -- comes to such an input of another region, or halts well.
-use Rattle.std.proofs.Common.{◌≡◌, ◌≢◌, ◌⊎◌, inl, inr, refl, sym, ap, ◌∙◌, subst, ℕ, zero, suc, ◌+◌, ◌<◌, Bool, true, false, ◌&&◌, ◌||◌, eqb, eqb-true, Some, None, Option, List, [], ◌∷◌, ◌++◌, map, length, take, arith, if◌then◌else◌}
+use Rattle.std.proofs.Common.{◌≡◌, ◌≢◌, inl, inr, refl, sym, ap, ◌∙◌, subst, ℕ, zero, suc, ◌+◌, ◌<◌, Bool, true, false, ◌||◌, eqb, eqb-true, List, [], ◌∷◌, map, length}
 use Rattle.std.specs.Prelude.{filter, slice_get}
+use Rattle.std.proofs.lemmas.Bool.{and_parts}
 use Rattle.std.proofs.lemmas.Option.{slice_get_within, same_Some}
 use Rattle.il_core.specs.Evaluation.{State}
 use Rattle.il_core.specs.Input.{IsInput}
 use Rattle.il_core.specs.LineGraph.{IsIn, HasArc, heads_at}
-use Rattle.il_core.specs.Machine.{Step, goes, step}
+use Rattle.il_core.specs.Machine.{Step, step}
 use Rattle.il_core.specs.Procedure.{Procedure}
-use Rattle.il_core.specs.Run.{IsInRange, IsInitial, HasNoBadRun, is_bad}
+use Rattle.il_core.specs.Run.{IsInRange, HasNoBadRun, is_bad}
 use Rattle.il_core.specs.Checked.{IsChecked}
 use Rattle.il_core.specs.declared.line.Halt.{Halt}
 use Rattle.il_core.specs.declared.line.Next.{Next}
@@ -17,27 +18,27 @@ use Rattle.il_core.specs.declared.line.Place.{Place}
 use Rattle.il_core.specs.declared.line.Stop.{Stop}
 use Rattle.il_core.specs.declared.line.Stop.TheVariants as stop
 use Rattle.il_core.proofs.StepKeeps.{IsKept, step-kept}
-use Rattle.flow_graph.specs.Graph.{graph_of, arc_to}
+use Rattle.flow_graph.specs.Graph.{arc_to}
 use Rattle.flow_graph.proofs.Formed.{graph_formed}
 use Rattle.flow_graph.proofs.LineArcs.{Joins-from_HasArc}
 use Rattle.flow_graph.proofs.Members.{IsIn-append_cases}
 use Rattle.control_flow.specs.Control.{heads_of}
 use Rattle.control_flow.specs.declared.control.LoopInfo.{LoopInfo}
-use Rattle.line_machine.specs.Cut.{IsMarked, EndsAt, GoesOnAt, Reaches}
+use Rattle.line_machine.specs.Cut.{IsMarked, EndsAt, Reaches}
 use Rattle.sym_terms.specs.Identity.{own_values}
 use Rattle.sym_terms.specs.Substitution.{state_of}
 use Rattle.sym_terms.specs.Comparison.{Comparison, comparison_holds}
 use Rattle.sym_simplify.specs.Literal.{LiteralForm, form_holds}
 use Rattle.sym_simplify.proofs.LiteralForms.{literal_keeps}
-use Rattle.test_graph.specs.Way.{Way, line_paths, all_hold, led_by, state_behind}
+use Rattle.test_graph.specs.Way.{Way, all_hold, state_behind}
 use Rattle.sym_terms.proofs.Composed.{own_state}
 use Rattle.test_graph.specs.Laws.{WaysAreSteps}
 use Rattle.region_paths.specs.Region.{AreRegions, is_head, first_lines, leading_of, head_marks}
-use Rattle.region_paths.specs.Chain.{IsLongChain, IsChainTo, Onward, Leads, Passes}
-use Rattle.region_paths.specs.PlainRow.{PlainRow, along}
+use Rattle.region_paths.specs.Chain.{IsLongChain, Onward, Leads, Passes}
+use Rattle.region_paths.specs.PlainRow.{PlainRow}
 use Rattle.region_paths.specs.Listing.{RegionPath, IsLongPath}
 use Rattle.region_paths.specs.Stepping.{StepsTo, StepsOn, LongStepsTo, TakesOne}
-use Rattle.region_paths.specs.Laws.{BeginsRegion, InputsTakeOnePath}
+use Rattle.region_paths.specs.Laws.{InputsTakeOnePath}
 use Rattle.region_paths.proofs.Fits.{fits, along-holds}
 use Rattle.region_paths.proofs.Marks.{length-head_marks, mark_of}
 use Rattle.path_inputs.specs.Core.{is_plain, is_disequality, core, core_disequalities}
@@ -46,6 +47,7 @@ use Rattle.compliance.specs.Opening.{opening, StayWithin}
 use Rattle.compliance.specs.Threat.{stops_badly, IsThreat, form_of_comparison, forms_of}
 use Rattle.compliance.specs.Laws.{ThreatsAreRefuted}
 use Rattle.compliance.proofs.CutRuns.{EndsWell, GoodPiece, cut_runs}
+use Rattle.compliance.proofs.Members.{from_filter, from_take}
 use Rattle.compliance.proofs.QuietLines.{IsQuiet, quiet_way}
 use Rattle.compliance.proofs.Openings.{ArePassed, through_quiet, leading_quiet, opening_quiet, opening_passed, start_not_opened}
 
@@ -75,10 +77,6 @@ chain_halts p loops pc (w ∷ ws) h c = by_next w.next refl c.1 (λ q. chain_hal
     by_next (next.Halted x) e k later = let same : h ≡ x = let f = k.1 in cc in (w, inl refl, subst (λ y. w.next ≡ next.Halted y) (sym same) e)
     by_next (next.At q) e k later = let t = by_head (is_head loops q) q k refl later in (t.0, inr t.1, t.2)
 
-both_true : (a b : Bool) → (a && b) ≡ true → (a ≡ true) × (b ≡ true)
-both_true true b h = (refl, h)
-both_true false b h = absurd cc
-
 -- ways through quiet lines that are passed in a state do not halt there
 none_halts : (p : Procedure) (lines : List ℕ) (ws : List Way) (s : State) → WaysAreSteps → IsChecked p → IsInRange p.places s → ((q : ℕ) → IsIn lines q → IsQuiet p q)
     → ArePassed p lines s → StayWithin p lines ws → fits ws s ≡ true → (w : Way) (h : Halt) → IsIn ws w → w.next ≡ next.Halted h → ⊥
@@ -87,7 +85,7 @@ none_halts p [] (v ∷ ws) s law c r k passed n f w h i e = absurd n
 none_halts p (q ∷ lines) (v ∷ ws) s law c r k passed n f w h i e = by_place i (none_halts p lines ws s law c r (λ x j. k x (inr j)) (λ x j. passed x (inr j)) n.1 later w h)
   where
     parts : (all_hold v.literals s ≡ true) × (fits ws (state_behind v.change s) ≡ true)
-    parts = both_true (all_hold v.literals s) (fits ws (state_behind v.change s)) f
+    parts = and_parts (all_hold v.literals s) (fits ws (state_behind v.change s)) f
 
     later : fits ws s ≡ true
     later = ap (λ x. fits ws (state_behind x s)) (sym (quiet_way p q v (k q (inl refl)) n.0)) ∙ parts.1
@@ -116,29 +114,14 @@ leaves_opening p loops pc s r h law c regions in_range passed k holds e within =
 pub forms_hold : (cs : List Comparison) (s : State) → all_hold cs s ≡ true → (f : LiteralForm) → IsIn (map form_of_comparison cs) f → form_holds f s ≡ true
 forms_hold [] s h f i = absurd i
 forms_hold (c ∷ cs) s h f (inl e) =
-    ap (λ x. form_holds x s) (sym e) ∙ literal_keeps c.relation c.left c.right s ∙ (both_true (comparison_holds c s) (all_hold cs s) h).0
-forms_hold (c ∷ cs) s h f (inr i) = forms_hold cs s (both_true (comparison_holds c s) (all_hold cs s) h).1 f i
+    ap (λ x. form_holds x s) (sym e) ∙ literal_keeps c.relation c.left c.right s ∙ (and_parts (comparison_holds c s) (all_hold cs s) h).0
+forms_hold (c ∷ cs) s h f (inr i) = forms_hold cs s (and_parts (comparison_holds c s) (all_hold cs s) h).1 f i
 
--- a member of a filtered list, or of a front of it, is one of the list
-pub from_filter : {X : Type 0} (p : X → Bool) (xs : List X) (x : X) → IsIn (filter p xs) x → IsIn xs x
-from_filter p [] x i = absurd i
-from_filter p (y ∷ xs) x i = by_test (p y) i (from_filter p xs x)
-  where
-    by_test : (t : Bool) → IsIn (if t then y ∷ filter p xs else filter p xs) x → (IsIn (filter p xs) x → IsIn xs x) → IsIn (y ∷ xs) x
-    by_test true (inl e) later = inl e
-    by_test true (inr j) later = inr (later j)
-    by_test false j later = inr (later j)
-
-from_take : {X : Type 0} (n : ℕ) (xs : List X) (x : X) → IsIn (take n xs) x → IsIn xs x
-from_take zero xs x i = absurd i
-from_take (suc n) [] x i = absurd i
-from_take (suc n) (y ∷ xs) x (inl e) = inl e
-from_take (suc n) (y ∷ xs) x (inr i) = inr (from_take n xs x i)
-
+-- what is in the core of a list is in the list
 from_core : (fs : List LiteralForm) (f : LiteralForm) → IsIn (core fs) f → IsIn fs f
 from_core fs f i = elim (IsIn-append_cases (filter is_plain fs) (core_disequalities fs) f i) [
-  | inl j ↦ from_filter is_plain fs f j
-  | inr j ↦ from_filter is_disequality fs f (from_take 8 (filter is_disequality fs) f j)
+  | inl j ↦ (from_filter is_plain fs f j).0
+  | inr j ↦ (from_filter is_disequality fs f (from_take 8 (filter is_disequality fs) f j)).0
 ]
 
 -- what an input meets is not plainly refuted

@@ -1,5 +1,5 @@
 -- Each line of an opening is quiet; and where a run has passed the leading assertions of a head, it would pass the opening of the head's region.
-use Rattle.std.proofs.Common.{◌≡◌, ◌⊎◌, inl, inr, refl, sym, ap, ◌∙◌, subst, ℕ, suc, ◌+◌, ◌≤◌, Bool, true, false, ◌||◌, cond, eqb, Some, List, [], ◌∷◌, arith, eqb-true}
+use Rattle.std.proofs.Common.{◌≡◌, ◌⊎◌, inl, inr, refl, sym, ap, ◌∙◌, subst, ℕ, suc, ◌+◌, ◌≤◌, Bool, true, false, cond, eqb, Some, List, [], ◌∷◌, arith, eqb-true}
 use Rattle.std.specs.Prelude.{slice_get}
 use Rattle.il_core.specs.Evaluation.{State}
 use Rattle.il_core.specs.LineGraph.{IsIn}
@@ -15,9 +15,9 @@ use Rattle.flow_graph.specs.Reached.{Lists}
 use Rattle.flow_graph.specs.declared.graph.NodeKind.TheVariants.{Plain}
 use Rattle.flow_graph.proofs.Formed.{graph_formed}
 use Rattle.control_flow.specs.Control.{heads_of}
-use Rattle.control_flow.specs.Loop.{kind_at, IsAssertion, BeginsAt, IsLeading}
+use Rattle.control_flow.specs.Loop.{kind_at, IsAssertion, IsLeading}
 use Rattle.control_flow.specs.declared.control.LoopInfo.{LoopInfo}
-use Rattle.region_paths.specs.Region.{AreRegions, is_head, leading_of}
+use Rattle.region_paths.specs.Region.{AreRegions, leading_of}
 use Rattle.region_paths.specs.Stepping.{StepsPast, StepsThrough}
 use Rattle.compliance.specs.Opening.{opened_by, opening}
 use Rattle.compliance.proofs.QuietLines.{IsQuiet, quiet_step, assertion_quiet, plain_quiet, plain_step}
@@ -98,8 +98,8 @@ head_kind p loops h a r i =
     let t = (l.exact a).0 i in
     elim t.1 [
       | inl b ↦
-        let here : (j : ℕ) → h ≤ j → j ≤ h → IsAssertion (graph_of p).nodes j = λ j low high. let e : h ≡ j = omega (arith, low, high) in subst (IsAssertion (graph_of p).nodes) e b.0 in
-        inl ((l.exact h).1 (h, inl (b.0, refl), omega arith, here), assertion_quiet p h b.0)
+          let here : (j : ℕ) → h ≤ j → j ≤ h → IsAssertion (graph_of p).nodes j = λ j low high. let e : h ≡ j = omega (arith, low, high) in subst (IsAssertion (graph_of p).nodes) e b.0 in
+          inl ((l.exact h).1 (h, inl (b.0, refl), omega arith, here), assertion_quiet p h b.0)
       | inr b ↦ inr b.0
     ]
 

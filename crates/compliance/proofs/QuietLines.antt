@@ -1,6 +1,6 @@
 -- Assertions and lines that do nothing: no way through one changes a place, and a step of one goes on to the next line with the same state, or
 -- halts badly.
-use Rattle.std.proofs.Common.{◌≡◌, ◌⊎◌, inl, inr, refl, sym, ap, ◌∙◌, subst, ℕ, ◌+◌, Bool, true, false, cond, Option, Some, None, List, [], ◌∷◌, ◌++◌, map, slice_get}
+use Rattle.std.proofs.Common.{◌≡◌, ◌⊎◌, inl, inr, refl, sym, ap, ◌∙◌, subst, ℕ, ◌+◌, Bool, true, false, cond, Option, Some, None, List, map, slice_get}
 use Rattle.std.specs.Option.{option_map}
 use Rattle.std.proofs.lemmas.Option.{slice_get-map, same_Some}
 use Rattle.il_core.specs.Evaluation.{State, holds}
@@ -16,13 +16,11 @@ use Rattle.il_core.specs.declared.line.Place.{Place}
 use Rattle.il_core.specs.declared.operator.BinOp.{BinOp}
 use Rattle.il_core.specs.declared.operator.BinOp.TheVariants.{Add, Sub, Mul, Div, Mod, Compare, And, Or}
 use Rattle.flow_graph.specs.Graph.{graph_of, kind_of, node_of, returned_from}
-use Rattle.flow_graph.specs.declared.graph.Node.{Node}
 use Rattle.flow_graph.specs.declared.graph.NodeKind.{NodeKind}
 use Rattle.flow_graph.specs.declared.graph.NodeKind.TheVariants.{Assign, Test, Assertion, Plain, Other, Last}
 use Rattle.flow_graph.proofs.Members.{IsIn-append_cases, IsIn-from_map}
 use Rattle.control_flow.specs.Loop.{kind_at, IsAssertion}
-use Rattle.test_graph.specs.Decision.{Change, Decision, ask, done, not_zero, guarded, divided, decided_on, holds_zero, decision_of, decision_there, decision_at}
-use Rattle.test_graph.specs.Decision as d
+use Rattle.test_graph.specs.Decision.{Decision, ask, done, not_zero, guarded, divided, decided_on, holds_zero, decision_of, decision_there, decision_at}
 use Rattle.il_core.specs.Bounds.{bounds_of}
 use Rattle.test_graph.specs.Way.{Way, ways_of, line_paths, decided_true, decided_false}
 
@@ -123,7 +121,7 @@ pub quiet_way : (p : Procedure) (q : ℕ) (w : Way) → IsQuiet p q → IsIn (li
 unfolding line_paths decision_at
 quiet_way p q w k i =
     let d : ChangesNothing (decision_there p.places q (slice_get p.lines q)) =
-        subst (λ (o : Option Instruction). ChangesNothing (decision_there p.places q o)) (sym k.there) (quiet_decision p.places q k.instruction k.quiet) in
+    subst (λ (o : Option Instruction). ChangesNothing (decision_there p.places q o)) (sym k.there) (quiet_decision p.places q k.instruction k.quiet) in
     way-still (decision_there p.places q (slice_get p.lines q)) d w i
 
 -- the next line with the same state, or a bad halt

@@ -1,5 +1,5 @@
 -- Where no region is past its size and each threat listed is refuted, each threat is.
-use Rattle.std.proofs.Common.{◌≡◌, inl, inr, refl, sym, ap, ◌∙◌, subst, ℕ, Option, Some, None, List, [], ◌∷◌, ◌++◌}
+use Rattle.std.proofs.Common.{◌≡◌, inl, inr, refl, sym, ap, ◌∙◌, subst, ℕ, Option, None, List, [], ◌∷◌}
 use Rattle.il_core.specs.LineGraph.{IsIn}
 use Rattle.il_core.specs.Procedure.{Procedure}
 use Rattle.flow_graph.proofs.Members.{IsIn-append_left, IsIn-append_right}

@@ -1,6 +1,6 @@
 -- An input that takes a long path meets each literal of it: at each line the decisions of one way alone begin what is left of the path's.
 use Rattle.std.proofs.Common.{◌≡◌, ◌⊎◌, inl, inr, refl, sym, ap, ◌∙◌, subst, ℕ, zero, suc, ◌+◌, Bool, true, false, ◌&&◌, Some, List, [], ◌∷◌, ◌++◌, map, length, append-nil}
-use Rattle.std.specs.Prelude.{filter, if◌then◌else◌}
+use Rattle.std.specs.Prelude.{filter}
 use Rattle.il_core.specs.Evaluation.{State}
 use Rattle.il_core.specs.Input.{IsInput}
 use Rattle.il_core.specs.LineGraph.{IsIn}
@@ -32,9 +32,10 @@ use Rattle.region_paths.proofs.Fits.{fits, along-holds}
 use Rattle.path_inputs.specs.Least.{Meets}
 use Rattle.compliance.specs.Threat.{IsThreat, forms_of}
 use Rattle.compliance.specs.Verdict.{TakesDecisions, TakesPath}
+use Rattle.compliance.proofs.Members.{from_filter}
 use Rattle.compliance.proofs.QuietLines.{IsQuiet, quiet_step, plain_step}
 use Rattle.compliance.proofs.Openings.{leading_lists, leading_quiet}
-use Rattle.compliance.proofs.NoBadRun.{forms_hold, from_filter, input_in_range}
+use Rattle.compliance.proofs.NoBadRun.{forms_hold, input_in_range}
 use Rattle.compliance.proofs.Following.{FollowOn, leads_from}
 use Rattle.compliance.proofs.Taking.{path_of, along-path, plain_decisions, behind_in_range}
 
@@ -74,15 +75,6 @@ same_way (ask c met unmet) v w a b i j g = by_sides (sides v i) (sides w j) (λ 
 way_there : (d : Decision) (s : State) → IsIn (filter (λ (w : Way). all_hold w.literals s) (ways_of d)) (way_taken d s)
 way_there d s = subst (λ l. IsIn l (way_taken d s)) (sym (one_way d s)) (inl refl)
 
-filtered_holds : {X : Type 0} (p : X → Bool) (xs : List X) (x : X) → IsIn (filter p xs) x → p x ≡ true
-filtered_holds p [] x i = absurd i
-filtered_holds p (y ∷ xs) x i = by_test (p y) refl i (filtered_holds p xs x)
-  where
-    by_test : (t : Bool) → p y ≡ t → IsIn (if t then y ∷ filter p xs else filter p xs) x → (IsIn (filter p xs) x → p x ≡ true) → p x ≡ true
-    by_test true e (inl k) later = ap p (sym k) ∙ e
-    by_test true e (inr j) later = later j
-    by_test false e j later = later j
-
 cancel : (a x y : List Bool) → a ++ x ≡ a ++ y → x ≡ y
 cancel [] x y e = e
 cancel (b ∷ a) x y e = cancel a x y (tail_same b (a ++ x) (a ++ y) e)
@@ -97,9 +89,9 @@ unfolding line_paths decisions
 way_held p q s w left rest i e =
     let t = way_there (decision_at p q) s in
     let k = from_filter (λ (x : Way). all_hold x.literals s) (ways_of (decision_at p q)) (way_taken (decision_at p q) s) t in
-    let f = same_way (decision_at p q) w (way_taken (decision_at p q) s) left rest i k e in
+    let f = same_way (decision_at p q) w (way_taken (decision_at p q) s) left rest i k.0 e in
     record {
-      holds = ap (λ (x : Way). all_hold x.literals s) f ∙ filtered_holds (λ (x : Way). all_hold x.literals s) (ways_of (decision_at p q)) (way_taken (decision_at p q) s) t;
+      holds = ap (λ (x : Way). all_hold x.literals s) f ∙ k.1;
       same = cancel w.path left rest (e ∙ ap (λ (x : Way). x.path ++ rest) (sym f));
     }
 
@@ -150,7 +142,7 @@ leads_back p head a (b ∷ lines) (w ∷ ws) (suc n) s h law c r k follow l t =
     let there : g.line ≡ a + 1 = line_is g.line (sym (ap (λ (x : Step). x.next) g.stepped ∙ g.next)) in
     fits_both w ws s g.holds
     (leads_back p head (a + 1) lines ws n (state_behind w.change s) h law c (behind_in_range p b s w c r g.stepped) (λ q i. k q (inr i)) follow.1 m
-      (subst (λ x. TakesDecisions p n x (state_behind w.change s) (path_of ws) h) there g.takes))
+    (subst (λ x. TakesDecisions p n x (state_behind w.change s) (path_of ws) h) there g.takes))
   where
     line_is : (q : ℕ) → next.At q ≡ (step p b s).next → q ≡ a + 1
     line_is q e = elim (quiet_step p b s (k b (inl refl))) [
@@ -166,9 +158,11 @@ plain_back p q (suc n) s path h e t =
     let g = plain_step p q s e in
     let f : next.At (q + 1) ≡ next.At t.0 = sym (ap (λ (x : Step). x.next) g) ∙ t.2 in
     let line : t.0 ≡ q + 1 = cc in
-    let same : t.1 ≡ path = sym (t.3 ∙ ap (λ x. x ++ t.1) (plain_decisions p q s e)) in
-    (n, subst (λ x. TakesDecisions p n x s path h) line
-      (subst (λ x. TakesDecisions p n t.0 s x h) same (subst (λ x. TakesDecisions p n t.0 x t.1 h) (ap (λ (x : Step). x.state) g) t.4)))
+    let same : t.1 ≡ path = sym (t.3 ∙ ap (λ x. x ++ t.1) (plain_decisions p q s e)) in (
+      n,
+      subst (λ x. TakesDecisions p n x s path h) line
+          (subst (λ x. TakesDecisions p n t.0 s x h) same (subst (λ x. TakesDecisions p n t.0 x t.1 h) (ap (λ (x : Step). x.state) g) t.4)),
+    )
 
 head_back : (p : Procedure) (loops : List LoopInfo) (q : ℕ) (ws : List Way) (n : ℕ) (s : State) (h : Halt) → WaysAreSteps → IsChecked p → AreRegions p loops → IsInRange p.places s
     → Leads p q (leading_of loops q) ws (stop.Halted h) → TakesDecisions p n q s (path_of ws) h → fits ws s ≡ true

@@ -1,5 +1,6 @@
 -- An input in which each literal of a long path holds takes the path: the lines stepped from it take the path's decisions and halt as it does.
-use Rattle.std.proofs.Common.{◌≡◌, ◌⊎◌, inl, inr, refl, sym, ap, ◌∙◌, subst, ℕ, zero, suc, ◌+◌, Bool, true, false, ◌&&◌, Some, List, [], ◌∷◌, ◌++◌, map, length, append-nil, slice_get}
+use Rattle.std.proofs.Common.{◌≡◌, inl, inr, refl, sym, ap, ◌∙◌, subst, ℕ, suc, ◌+◌, Bool, true, false, ◌&&◌, Some, List, [], ◌∷◌, ◌++◌, map, length, append-nil}
+use Rattle.std.proofs.lemmas.Bool.{and_parts}
 use Rattle.il_core.specs.Evaluation.{State}
 use Rattle.il_core.specs.LineGraph.{IsIn}
 use Rattle.il_core.specs.Machine.{Step, step}
@@ -89,10 +90,6 @@ takes_more p q r s w ws h i a e n t =
     let rest = subst (λ x. TakesDecisions p t.0 r x (path_of ws) h) same t.1 in
     (suc t.0, (r, path_of ws, n, ap (λ y. y ++ path_of ws) (sym (way_decides p q s w i a)), rest))
 
-both_true : (a b : Bool) → (a && b) ≡ true → (a ≡ true) × (b ≡ true)
-both_true true b h = (refl, h)
-both_true false b h = absurd cc
-
 pub behind_in_range : (p : Procedure) (q : ℕ) (s : State) (w : Way) → IsChecked p → IsInRange p.places s → step p q s ≡ led_by w s → IsInRange p.places (state_behind w.change s)
 behind_in_range p q s w c r e = subst (λ (x : Step). IsInRange p.places x.state) e (step-kept p q s c r).in_range
 
@@ -104,10 +101,10 @@ leads_take p head a (b ∷ lines) [] s h law c r k follow l f = absurd l
 leads_take p head a (b ∷ lines) (w ∷ ws) s h law c r k follow l f =
     subst (λ x. Takes p x s (path_of (w ∷ ws)) h) follow.0
     (by_next w.next refl l.1
-      (λ m. leads_take p head (a + 1) lines ws (state_behind w.change s) h law c (behind_in_range p b s w c r stepped) (λ q i. k q (inr i)) follow.1 m parts.1))
+    (λ m. leads_take p head (a + 1) lines ws (state_behind w.change s) h law c (behind_in_range p b s w c r stepped) (λ q i. k q (inr i)) follow.1 m parts.1))
   where
     parts : (all_hold w.literals s ≡ true) × (fits ws (state_behind w.change s) ≡ true)
-    parts = both_true (all_hold w.literals s) (fits ws (state_behind w.change s)) f
+    parts = and_parts (all_hold w.literals s) (fits ws (state_behind w.change s)) f
 
     stepped : step p b s ≡ led_by w s
     stepped = law p b s w c r l.0 parts.0
@@ -133,9 +130,16 @@ head_takes p loops q ws s h law c regions r l f = by_lines (leading_of loops q) 
     begun a start (inr b) t =
         let e = plain_step p q s b.0 in
         let t' : Takes p (q + 1) s (path_of ws) h = subst (λ x. Takes p x s (path_of ws) h) b.1 t in
-        let same : s ≡ (step p q s).state = sym (ap (λ (x : Step). x.state) e) in
-        (suc t'.0, (q + 1, path_of ws, ap (λ (x : Step). x.next) e, ap (λ y. y ++ path_of ws) (sym (plain_decisions p q s b.0)),
-          subst (λ x. TakesDecisions p t'.0 (q + 1) x (path_of ws) h) same t'.1))
+        let same : s ≡ (step p q s).state = sym (ap (λ (x : Step). x.state) e) in (
+          suc t'.0,
+          (
+            q + 1,
+            path_of ws,
+            ap (λ (x : Step). x.next) e,
+            ap (λ y. y ++ path_of ws) (sym (plain_decisions p q s b.0)),
+            subst (λ x. TakesDecisions p t'.0 (q + 1) x (path_of ws) h) same t'.1,
+          ),
+        )
 
     by_lines : (lines : List ℕ) → leading_of loops q ≡ lines → Leads p q lines ws (stop.Halted h) → Takes p q s (path_of ws) h
     by_lines [] e m = absurd (let x = m.1 in cc)
@@ -153,7 +157,7 @@ chain_takes p loops pc (w ∷ ws) s h law c regions r k f =
     by_next w.next refl k.1 (λ q m. chain_takes p loops q ws (state_behind w.change s) h law c regions later m parts.1)
   where
     parts : (all_hold w.literals s ≡ true) × (fits ws (state_behind w.change s) ≡ true)
-    parts = both_true (all_hold w.literals s) (fits ws (state_behind w.change s)) f
+    parts = and_parts (all_hold w.literals s) (fits ws (state_behind w.change s)) f
 
     stepped : step p pc s ≡ led_by w s
     stepped = law p pc s w c r k.0 parts.0

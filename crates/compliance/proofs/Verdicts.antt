@@ -1,5 +1,5 @@
 -- Where the least input of a threat does not take it, some literal of it is loose, and so one is the first.
-use Rattle.std.proofs.Common.{◌≡◌, ◌⊎◌, inl, inr, refl, sym, ap, ◌∙◌, subst, ℕ, zero, suc, ◌+◌, ◌<◌, ◌≤◌, Bool, true, false, Option, Some, None, List, [], ◌∷◌, length, take, slice_get, arith}
+use Rattle.std.proofs.Common.{◌≡◌, ◌⊎◌, inl, inr, refl, sym, ◌∙◌, subst, ℕ, zero, suc, ◌<◌, ◌≤◌, Bool, true, false, Option, Some, None, List, length, take, slice_get, arith}
 use Rattle.std.specs.Prelude.{filter}
 use Rattle.std.proofs.lemmas.Bool.{cases_lt}
 use Rattle.std.proofs.lemmas.Option.{same_Some}
@@ -12,7 +12,7 @@ use Rattle.test_graph.specs.Laws.{WaysAreSteps}
 use Rattle.region_paths.specs.Listing.{RegionPath}
 use Rattle.region_paths.specs.Laws.{BeginsRegion}
 use Rattle.path_inputs.specs.Core.{is_disequality, IsLoose}
-use Rattle.path_inputs.specs.Least.{Meets, IsLeastInput}
+use Rattle.path_inputs.specs.Least.{IsLeastInput}
 use Rattle.path_inputs.specs.Laws.{AreInCore, LeastMeetsCore, UnmetIsLoose}
 use Rattle.compliance.specs.Threat.{IsThreat, forms_of}
 use Rattle.compliance.specs.Verdict.{TakesPath, IsFirstLoose}

@@ -1,22 +1,32 @@
 -- What holds of the runs and the threats of each checked procedure in which no cycle is twice entered.
-use Rattle.std.specs.Prelude.{◌≡◌, ◌↔◌, ℕ, List}
+use Rattle.std.specs.Prelude.{◌≡◌, ◌↔◌, ◌≤◌, ℕ, List, length}
 use Rattle.il_core.specs.Evaluation.{State}
 use Rattle.il_core.specs.Input.{IsInput}
 use Rattle.il_core.specs.LineGraph.{IsIn}
 use Rattle.il_core.specs.Procedure.{Procedure}
 use Rattle.il_core.specs.Run.{HasNoBadRun}
 use Rattle.il_core.specs.Checked.{IsChecked}
+use Rattle.il_core.specs.declared.line.Halt.{Halt}
+use Rattle.il_core.specs.declared.line.Stop.TheVariants.{Halted}
 use Rattle.control_flow.specs.declared.control.LoopInfo.{LoopInfo}
 use Rattle.region_paths.specs.Region.{AreRegions, first_lines}
+use Rattle.test_graph.specs.Way.{Way}
+use Rattle.region_paths.specs.Chain.{IsLongChain}
 use Rattle.region_paths.specs.Listing.{RegionPath}
 use Rattle.region_paths.specs.Laws.{BeginsRegion}
 use Rattle.path_inputs.specs.Least.{Meets, IsPlainlyRefuted, IsLeastInput}
 use Rattle.path_inputs.specs.Laws.{AreInCore}
+use Rattle.compliance.specs.Opening.{opening, StayWithin}
 use Rattle.compliance.specs.Threat.{IsThreat, forms_of}
 use Rattle.compliance.specs.Verdict.{TakesPath, IsFirstLoose, HasVerdict}
 use Rattle.compliance.specs.Safe.{AreThreatsOf, IsSafeWhereRefuted}
 use Rattle.compliance.specs.declared.threat.Threat.{Threat}
 use Rattle.compliance.specs.declared.threat.Verdict.{Verdict}
+
+-- a long path that halts stays within the opening of its region exactly where it passes no more lines than the opening has
+abbrev pub ShortPathsStayWithin : Type 0
+ShortPathsStayWithin = (p : Procedure) (loops : List LoopInfo) (pc : ℕ) (ws : List Way) (h : Halt) → AreRegions p loops → IsLongChain p loops pc ws (Halted h)
+    → StayWithin p (opening loops pc) ws ↔ (length ws ≤ length (opening loops pc))
 
 -- each threat of each region is plainly refuted
 abbrev pub ThreatsAreRefuted : Procedure → List LoopInfo → Type 0

@@ -9,7 +9,7 @@ mod laws;
 mod threat;
 
 pub use laws::{
-    one_verdict, refuted_lists_mean_no_bad_run, refuted_threats_mean_no_bad_run,
-    threats_are_taken_where_met,
+    least_inputs_take_threats, one_verdict, open_threats_are_loose, refuted_lists_mean_no_bad_run,
+    refuted_threats_mean_no_bad_run, short_paths_stay_within, threats_are_taken_where_met,
 };
 pub use threat::{Threat, Verdict};

@@ -16,6 +16,3 @@ pub use evaluation::{truth_value, whole_value};
 pub use laws::{bounds_hold, division_is_euclidean, steps_stay_inside};
 pub use running::run_to_cut;
 pub use stepping::step;
-
-#[cfg(test)]
-mod tests;

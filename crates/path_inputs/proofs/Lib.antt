@@ -1,5 +1,5 @@
-mod Members
-mod Elements
+pub mod Members
+pub mod Elements
 mod Cores
 mod Readings
 mod Splits

@@ -36,6 +36,3 @@ pub use normal::{Atom, Kept, LinearPart, LinearTerm, LitForm, Normal, Part};
 pub(crate) use opening::OpenForm;
 pub use simplifying::{linear, norm, norm_literal};
 pub(crate) use table::FormTable;
-
-#[cfg(test)]
-mod tests;
