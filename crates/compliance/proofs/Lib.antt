@@ -10,3 +10,4 @@ pub mod Taking
 pub mod TakenBack
 pub mod Verdicts
 pub mod OneVerdict
+pub mod Listings

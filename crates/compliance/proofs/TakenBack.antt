@@ -43,7 +43,7 @@ tail_same : (a : Bool) (xs ys : List Bool) → (a ∷ xs) ≡ (a ∷ ys) → xs 
 tail_same a xs ys e = cc
 
 -- two ways through a line that both begin one list of decisions are the same
-same_way : (d : Decision) (v w : Way) (a b : List Bool) → IsIn (ways_of d) v → IsIn (ways_of d) w → v.path ++ a ≡ w.path ++ b → v ≡ w
+pub same_way : (d : Decision) (v w : Way) (a b : List Bool) → IsIn (ways_of d) v → IsIn (ways_of d) w → v.path ++ a ≡ w.path ++ b → v ≡ w
 same_way (done change next) v w a b (inl e) (inl f) g = sym e ∙ f
 same_way (done change next) v w a b (inl e) (inr j) g = absurd j
 same_way (done change next) v w a b (inr i) j g = absurd i
@@ -75,7 +75,7 @@ same_way (ask c met unmet) v w a b i j g = by_sides (sides v i) (sides w j) (λ 
 way_there : (d : Decision) (s : State) → IsIn (filter (λ (w : Way). all_hold w.literals s) (ways_of d)) (way_taken d s)
 way_there d s = subst (λ l. IsIn l (way_taken d s)) (sym (one_way d s)) (inl refl)
 
-cancel : (a x y : List Bool) → a ++ x ≡ a ++ y → x ≡ y
+pub cancel : (a x y : List Bool) → a ++ x ≡ a ++ y → x ≡ y
 cancel [] x y e = e
 cancel (b ∷ a) x y e = cancel a x y (tail_same b (a ++ x) (a ++ y) e)
 

@@ -17,7 +17,7 @@ use Rattle.region_paths.specs.Laws.{BeginsRegion}
 use Rattle.path_inputs.specs.Least.{Meets, IsPlainlyRefuted, IsLeastInput}
 use Rattle.path_inputs.specs.Laws.{AreInCore}
 use Rattle.compliance.specs.Opening.{opening, StayWithin}
-use Rattle.compliance.specs.Threat.{IsThreat, forms_of}
+use Rattle.compliance.specs.Threat.{IsThreat, AreThreats, forms_of}
 use Rattle.compliance.specs.Verdict.{TakesPath, IsFirstLoose, HasVerdict}
 use Rattle.compliance.specs.Safe.{AreThreatsOf, IsSafeWhereRefuted}
 use Rattle.compliance.specs.declared.threat.Threat.{Threat}
@@ -27,6 +27,11 @@ use Rattle.compliance.specs.declared.threat.Verdict.{Verdict}
 abbrev pub ShortPathsStayWithin : Type 0
 ShortPathsStayWithin = (p : Procedure) (loops : List LoopInfo) (pc : ℕ) (ws : List Way) (h : Halt) → AreRegions p loops → IsLongChain p loops pc ws (Halted h)
     → StayWithin p (opening loops pc) ws ↔ (length ws ≤ length (opening loops pc))
+
+-- each region has one list of its threats
+abbrev pub ThreatsAreListed : Type 0
+ThreatsAreListed = (p : Procedure) (loops : List LoopInfo) (pc : ℕ) → BeginsRegion p loops pc
+    → (rows : List RegionPath) × AreThreats p loops pc rows × ((others : List RegionPath) → AreThreats p loops pc others → others ≡ rows)
 
 -- each threat of each region is plainly refuted
 abbrev pub ThreatsAreRefuted : Procedure → List LoopInfo → Type 0

@@ -1,8 +1,8 @@
 //! Laws of runs and threats, as contracts of functions that do nothing.
-ghost use Rattle.compliance.specs.Laws.{ShortPathsStayWithin, RefutedThreatsMeanNoBadRun, RefutedListsMeanNoBadRun, ThreatsAreTakenWhereMet, LeastInputsTakeThreats, OpenThreatsAreLoose, OneVerdict};
+ghost use Rattle.compliance.specs.Laws.{ShortPathsStayWithin, ThreatsAreListed, RefutedThreatsMeanNoBadRun, RefutedListsMeanNoBadRun, ThreatsAreTakenWhereMet, LeastInputsTakeThreats, OpenThreatsAreLoose, OneVerdict};
 
 use path_inputs::{least_meets_core, unmet_is_loose};
-use region_paths::{inputs_take_one_path, one_listing};
+use region_paths::{inputs_take_one_path, one_listing, paths_are_listed};
 use test_graph::{ways_are_steps, ways_go_along_arcs};
 
 /// A long path that halts stays within the opening of its region exactly where it passes no more lines than the opening
@@ -11,6 +11,14 @@ pub fn short_paths_stay_within()
     ensures { ShortPathsStayWithin }
 {
     ways_go_along_arcs();
+}
+
+/// Each region has one list of its threats.
+pub fn threats_are_listed()
+    ensures { ThreatsAreListed }
+{
+    ways_go_along_arcs();
+    paths_are_listed();
 }
 
 /// Where each threat of each region is plainly refuted, no run from the precondition faults, fails an assertion or ends

@@ -10,6 +10,7 @@ mod threat;
 
 pub use laws::{
     least_inputs_take_threats, one_verdict, open_threats_are_loose, refuted_lists_mean_no_bad_run,
-    refuted_threats_mean_no_bad_run, short_paths_stay_within, threats_are_taken_where_met,
+    refuted_threats_mean_no_bad_run, short_paths_stay_within, threats_are_listed,
+    threats_are_taken_where_met,
 };
 pub use threat::{Threat, Verdict};
