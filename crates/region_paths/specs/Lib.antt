@@ -6,4 +6,5 @@ pub mod Stepping
 pub mod PathTree
 pub mod Size
 pub mod Tally
+pub mod Walk
 pub mod Laws

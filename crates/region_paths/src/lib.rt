@@ -4,5 +4,6 @@
 mod laws;
 mod size;
 mod tally;
+mod walk;
 
 pub use size::Limit;
