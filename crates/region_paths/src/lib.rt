@@ -8,7 +8,6 @@
 mod laws;
 mod size;
 mod tally;
-mod walk;
 
 pub use laws::{
     decisions_tell_paths, heads_cut_cycles, inputs_take_one_path, one_listing, paths_are_listed,
