@@ -1,8 +1,8 @@
 -- What is tallied down a tree is what its paths come to: their number, their nodes together, and the greatest weight and depth on them.
 use Rattle.std.proofs.Common.{◌≡◌, inl, inr, refl, sym, ap, ◌∙◌, subst, ℕ, zero, suc, ◌+◌, ◌-◌, ◌*◌, ◌^◌, ◌<◌, ◌≤◌, Bool, true, false, Option, Some, None, List, [], ◌∷◌, ◌++◌, map, length, arith}
-use Rattle.std.specs.Prelude.{min, max, sum_by, nat_lt, option_and_then, if◌then◌else◌}
+use Rattle.std.specs.Prelude.{min, max, sum_by, nat_lt, nat_le, option_and_then, if◌then◌else◌}
 use Rattle.std.specs.Option.{option_map}
-use Rattle.std.proofs.lemmas.Bool.{cases_lt, ltb-true, ltb-false}
+use Rattle.std.proofs.lemmas.Bool.{cases_lt, ltb-true, ltb-false, lt-ltb, le-ltb, lt-leb, le-leb}
 use Rattle.std.proofs.lemmas.List.{length-append, length-map}
 use Rattle.std.proofs.lemmas.List.Sums.{sum_by-cons, sum_by-append}
 use Rattle.sym_terms.specs.Tree.{Tree}
@@ -13,12 +13,15 @@ use Rattle.test_graph.specs.Way.{changed}
 use Rattle.region_paths.specs.PlainRow.{assigned_under}
 use Rattle.region_paths.specs.Listing.{RegionPath}
 use Rattle.region_paths.specs.PathTree.{PathTree, fork, change, stops, begun, paths_down}
-use Rattle.region_paths.specs.Size.{greatest_by, path_nodes, path_weight, path_depth, past_of}
+use Rattle.region_paths.specs.Size.{greatest_by, path_nodes, path_weight, path_depth, past_of, limit_passed}
+use Rattle.sym_terms.specs.Substitution.{substituted}
 use Rattle.region_paths.specs.Tally.{comparison_measured, IsTally, with_path, with_size, with_change, tallied, limit_of, empty}
 use Rattle.region_paths.specs.declared.tally.Tally.{Tally}
+use Rattle.region_paths.specs.declared.size.Limit.{Limit}
+use Rattle.region_paths.specs.declared.size.Limit.TheVariants.{Rows, Nodes, Weight, Depth}
 
 -- what some paths add to a tally
-record Adds (rows : List RegionPath) (a b : Tally) : Type 0 where
+pub record Adds (rows : List RegionPath) (a b : Tally) : Type 0 where
   pub paths : b.paths ≡ a.paths + length rows
   pub few : b.paths ≤ 16384
   pub some : 1 ≤ length rows
@@ -26,7 +29,7 @@ record Adds (rows : List RegionPath) (a b : Tally) : Type 0 where
   pub weight : b.weight ≡ max a.weight (min (greatest_by path_weight rows) (2 ^ 100))
   pub depth : b.depth ≡ max a.depth (min (greatest_by path_depth rows) 1001)
 
-abbrev Tells : List RegionPath → Tally → Option Tally → Type 0
+abbrev pub Tells : List RegionPath → Tally → Option Tally → Type 0
 Tells rows a None = 16384 < a.paths + length rows
 Tells rows a (Some b) = Adds rows a b
 
@@ -217,3 +220,89 @@ same_begun r = refl
 map-same : (p : List RegionPath) → map (begun [] [] []) p ≡ p
 map-same [] = refl
 map-same (r ∷ p) = ap (λ (k : List RegionPath). r ∷ k) (map-same p)
+
+-- both sides of a decision, as far as they are followed
+both_tell : (f g : RegionPath → RegionPath) (n w d : ℕ) (p q : List RegionPath) (a b : Tally) (o : Option Tally) → Meet f n w d → Meet g n w d → Adds p a b → Tells q b o
+    → Tells (map f p ++ map g q) a (option_map (λ (e : Tally). with_size (record { nodes = min n 2097153; weight = min w (2 ^ 100); depth = min d 1001 }) (e.paths - a.paths) e) o)
+both_tell f g n w d p q a b None m k x y = omega (arith, y, x.paths, length-append (map f p) (map g q), length-map p f, length-map q g)
+both_tell f g n w d p q a b (Some e) m k x y = fork_adds f g n w d p q a b e m k x y
+
+fork_tells : (f g : RegionPath → RegionPath) (n w d : ℕ) (p q : List RegionPath) (a : Tally) (o : Option Tally) (next : Tally → Option Tally) → Meet f n w d → Meet g n w d → Tells p a o
+    → ((b : Tally) → Adds p a b → Tells q b (next b))
+    → Tells (map f p ++ map g q) a
+        (option_map (λ (e : Tally). with_size (record { nodes = min n 2097153; weight = min w (2 ^ 100); depth = min d 1001 }) (e.paths - a.paths) e) (option_and_then next o))
+fork_tells f g n w d p q a None next m k x later = omega (arith, x, length-append (map f p) (map g q), length-map p f)
+fork_tells f g n w d p q a (Some b) next m k x later = both_tell f g n w d p q a b (next b) m k x (later b x)
+
+assign_tells : (f : RegionPath → RegionPath) (n w d : ℕ) (p : List RegionPath) (a : Tally) (o : Option Tally) → Meet f n w d → Tells p a o
+    → Tells (map f p) a (option_map (λ (b : Tally). with_size (record { nodes = min n 2097153; weight = min w (2 ^ 100); depth = min d 1001 }) (b.paths - a.paths) b) o)
+assign_tells f n w d p a None m x = omega (arith, x, length-map p f)
+assign_tells f n w d p a (Some b) m x = assign_adds f n w d p a b m x
+
+same_tells : (p q : List RegionPath) (a : Tally) (o : Option Tally) → q ≡ p → Tells p a o → Tells q a (option_map (λ (b : Tally). b) o)
+same_tells p q a None e x = subst (λ (k : List RegionPath). Tells k a None) (sym e) x
+same_tells p q a (Some b) e x = subst (λ (k : List RegionPath). Adds k a b) (sym e) x
+
+-- what is tallied down a tree is what its paths add
+pub tally_tells : (t : PathTree) (terms : List Tree) (a : Tally) → IsTally a → Tells (paths_down t terms) a (tallied t terms a)
+tally_tells (fork c met unmet) terms a s =
+    fork_tells (begun (true ∷ []) (comparison_under terms c ∷ []) []) (begun (false ∷ []) (comparison_under terms (denied c) ∷ []) [])
+    (comparison_nodes (comparison_under terms c)) (comparison_weight (comparison_under terms c)) (comparison_depth (comparison_under terms c))
+    (paths_down met terms) (paths_down unmet terms) a (tallied met terms a) (λ (b : Tally). tallied unmet terms b)
+    (decided_meets (true ∷ []) (comparison_under terms c)) (decided_meets (false ∷ []) (comparison_under terms (denied c)))
+    (tally_tells met terms a s) (λ b x. tally_tells unmet terms b (adds_sound (paths_down met terms) a b x))
+tally_tells (change None rest) terms a s = same_tells (paths_down rest terms) (map (begun [] [] []) (paths_down rest terms)) a (tallied rest terms a) (map-same (paths_down rest terms)) (tally_tells rest terms a s)
+tally_tells (change (Some c) rest) terms a s =
+    assign_tells (begun [] [] (substituted terms c.term ∷ [])) (nodes (substituted terms c.term)) (weight (substituted terms c.term)) (depth (substituted terms c.term))
+    (paths_down rest (changed (Some c) terms)) a (tallied rest (changed (Some c) terms) a) (assigned_meets (substituted terms c.term)) (tally_tells rest (changed (Some c) terms) a s)
+tally_tells (stops end) terms a s = one_path a (record { row = record { path = []; literals = []; assigned = []; values = terms }; stop = end }) s refl refl refl
+
+-- the first limit by four tests
+abbrev first_of : Bool → Bool → Bool → Bool → Option Limit
+first_of rows nodes weight depth = if rows then Some Rows else (if nodes then Some Nodes else (if weight then Some Weight else (if depth then Some Depth else None)))
+
+same_lt : (k m n : ℕ) → (k < n → k < m) → (n ≤ k → m ≤ k) → nat_lt k m ≡ nat_lt k n
+same_lt k m n above below = elim (cases_lt k n) [
+  | inl h ↦ lt-ltb k m (above h) ∙ sym (lt-ltb k n h)
+  | inr h ↦ le-ltb k m (below h) ∙ sym (le-ltb k n h)
+]
+
+same_le : (k m n : ℕ) → (k ≤ n → k ≤ m) → (n < k → m < k) → nat_le k m ≡ nat_le k n
+same_le k m n above below = elim (cases_lt n k) [
+  | inl h ↦ lt-leb k m (below h) ∙ sym (lt-leb k n h)
+  | inr h ↦ le-leb k m (above h) ∙ sym (le-leb k n h)
+]
+
+weight_capped : (c w : ℕ) → nat_le c (min w c) ≡ nat_le c w
+weight_capped c w = same_le c (min w c) w (λ h. omega (arith, h)) (λ h. omega (arith, h))
+
+-- a capped number passes a limit below its cap exactly where the number does
+passed_capped : (rows n w d : ℕ) → limit_passed rows (min n 2097153) (min w (2 ^ 100)) (min d 1001) ≡ limit_passed rows n w d
+passed_capped rows n w d =
+    ap (λ (x : Bool). first_of (nat_lt 16384 rows) x (nat_le (2 ^ 100) (min w (2 ^ 100))) (nat_lt 1000 (min d 1001)))
+        (same_lt 2097152 (min n 2097153) n (λ h. omega (arith, h)) (λ h. omega (arith, h)))
+    ∙ ap (λ (x : Bool). first_of (nat_lt 16384 rows) (nat_lt 2097152 n) x (nat_lt 1000 (min d 1001))) (weight_capped (2 ^ 100) w)
+    ∙ ap (first_of (nat_lt 16384 rows) (nat_lt 2097152 n) (nat_le (2 ^ 100) w)) (same_lt 1000 (min d 1001) d (λ h. omega (arith, h)) (λ h. omega (arith, h)))
+
+-- the limit that some paths pass first is that of their tally
+limit_told : (rows : List RegionPath) (o : Option Tally) → Tells rows empty o → limit_of o ≡ past_of rows
+limit_told rows None t =
+    let h : 16384 < length rows = omega (arith, t) in
+    sym (ap (λ (x : Bool). first_of x (nat_lt 2097152 (sum_by path_nodes rows)) (nat_le (2 ^ 100) (greatest_by path_weight rows)) (nat_lt 1000 (greatest_by path_depth rows))) (lt-ltb 16384 (length rows) h))
+limit_told rows (Some b) t =
+    let paths : b.paths ≡ length rows = omega (arith, t.paths) in
+    let nodes : b.nodes ≡ min (sum_by path_nodes rows) 2097153 = omega (arith, t.nodes) in
+    let weight : b.weight ≡ min (greatest_by path_weight rows) (2 ^ 100) = t.weight ∙ max_zero (min (greatest_by path_weight rows) (2 ^ 100)) in
+    let depth : b.depth ≡ min (greatest_by path_depth rows) 1001 = t.depth ∙ max_zero (min (greatest_by path_depth rows) 1001) in
+    ap (λ (x : ℕ). limit_passed x b.nodes b.weight b.depth) paths
+    ∙ ap (λ (x : ℕ). limit_passed (length rows) x b.weight b.depth) nodes
+    ∙ ap (λ (x : ℕ). limit_passed (length rows) (min (sum_by path_nodes rows) 2097153) x b.depth) weight
+    ∙ ap (λ (x : ℕ). limit_passed (length rows) (min (sum_by path_nodes rows) 2097153) (min (greatest_by path_weight rows) (2 ^ 100)) x) depth
+    ∙ passed_capped (length rows) (sum_by path_nodes rows) (greatest_by path_weight rows) (greatest_by path_depth rows)
+  where
+    max_zero : (x : ℕ) → max 0 x ≡ x
+    max_zero x = omega arith
+
+-- the limit that a tree's paths pass first, by tallying them
+pub limit_of_tree : (t : PathTree) (terms : List Tree) → limit_of (tallied t terms empty) ≡ past_of (paths_down t terms)
+limit_of_tree t terms = limit_told (paths_down t terms) (tallied t terms empty) (tally_tells t terms empty (record { few_paths = omega arith; few_nodes = omega arith }))
