@@ -11,3 +11,5 @@ pub mod Listed
 pub mod Nodes
 pub mod Tallies
 pub mod Totals
+pub mod Walking
+pub mod Sized

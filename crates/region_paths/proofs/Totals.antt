@@ -17,8 +17,8 @@ use Rattle.region_paths.specs.Size.{greatest_by, path_nodes, path_weight, path_d
 use Rattle.sym_terms.specs.Substitution.{substituted}
 use Rattle.region_paths.specs.Tally.{comparison_measured, IsTally, with_path, with_size, with_change, tallied, limit_of, empty}
 use Rattle.region_paths.specs.declared.tally.Tally.{Tally}
-use Rattle.region_paths.specs.declared.size.Limit.{Limit}
-use Rattle.region_paths.specs.declared.size.Limit.TheVariants.{Rows, Nodes, Weight, Depth}
+use Rattle.region_paths.specs.declared.limit.Limit.{Limit}
+use Rattle.region_paths.specs.declared.limit.Limit.TheVariants.{Rows, Nodes, Weight, Depth}
 
 -- what some paths add to a tally
 pub record Adds (rows : List RegionPath) (a b : Tally) : Type 0 where

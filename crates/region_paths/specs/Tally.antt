@@ -11,8 +11,8 @@ use Rattle.test_graph.specs.Decision.{Change}
 use Rattle.test_graph.specs.Way.{changed}
 use Rattle.region_paths.specs.PathTree.{PathTree, fork, change, stops}
 use Rattle.region_paths.specs.Size.{limit_passed}
-use Rattle.region_paths.specs.declared.size.Limit.{Limit}
-use Rattle.region_paths.specs.declared.size.Limit.TheVariants.{Rows}
+use Rattle.region_paths.specs.declared.limit.Limit.{Limit}
+use Rattle.region_paths.specs.declared.limit.Limit.TheVariants.{Rows}
 use Rattle.region_paths.specs.declared.tally.Tally.{Tally}
 
 -- the size of a comparison, capped as the measures of terms are

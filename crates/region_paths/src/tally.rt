@@ -1,13 +1,14 @@
 //! What the paths of a region come to, capped.
-ghost use Rattle.std.specs.Prelude.{◌≡◌, ◌≤◌, ◌+◌, List, All, length, map};
+ghost use Rattle.std.specs.Prelude.{◌≡◌, ◌≤◌, ◌<◌, ◌+◌, ◌-◌, List, All, IfSome, Some, length, map, slice_get, slice_set};
+ghost use Rattle.std.specs.Option.{option_map, ForSome};
 ghost use Rattle.sym_terms.specs.Tree.{Tree};
 ghost use Rattle.sym_terms.specs.Measure.{measured, IsCapped};
 ghost use Rattle.sym_terms.specs.Comparison.{comparison_of, comparison_under, ComparesPlacesBelow};
-ghost use Rattle.region_paths.specs.Tally.{comparison_measured, IsTally, empty};
+ghost use Rattle.region_paths.specs.Tally.{comparison_measured, IsTally, IsGrown, empty};
 ghost use Rattle.region_paths.specs.Tally as spec;
 ghost use Rattle.region_paths.specs.Size.{limit_passed};
 
-use crate::size::Limit;
+use crate::limit::Limit;
 use sym_terms::{DEPTH_CAP, Literal, NODE_CAP, TermMeasure, WEIGHT_CAP, measure};
 
 /// The most long paths that a region within its size has.
@@ -103,4 +104,32 @@ pub fn comparison_measure(literal: &Literal, env: &[TermMeasure]) -> TermMeasure
         weight: (left.weight + right.weight).min(WEIGHT_CAP),
         depth: left.depth.max(right.depth).min(DEPTH_CAP),
     }
+}
+
+/// A comparison or a term of this size that stands on each path which came to a tally.
+pub fn met_by(size: TermMeasure, before: Tally, after: Option<Tally>) -> Option<Tally>
+    requires capped { IsCapped size }
+    requires grown { ForSome after (λ b. IsGrown before b) }
+    ensures exact { result ≡ option_map (λ b. spec.with_size size (b.paths - before.paths) b) after }
+    ensures grown { IfSome result (λ b. IsGrown before b) }
+{
+    match after {
+        Some(tally) => Some(tally.with_size(size, tally.paths - before.paths)),
+        None => None,
+    }
+}
+
+/// Puts a place's size in place of the one before, which it answers.
+pub fn exchange(env: &mut [TermMeasure], place: usize, size: TermMeasure) -> TermMeasure
+    requires place { place < length env.old }
+    requires sound { All IsCapped env.old }
+    requires capped { IsCapped size }
+    ensures before { slice_get env.old place ≡ Some result }
+    ensures after { env.new ≡ slice_set env.old place size }
+    ensures sound { All IsCapped env.new }
+    ensures capped { IsCapped result }
+{
+    let was = env[place];
+    env[place] = size;
+    was
 }
