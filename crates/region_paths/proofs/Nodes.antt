@@ -1,5 +1,5 @@
 -- What a node of the lowered graph tells of the decisions that stand from it on.
-use Rattle.std.proofs.Common.{◌≡◌, ◌⊎◌, inl, inr, refl, sym, ap, ◌∙◌, subst, ℕ, ◌<◌, Option, Some, None, List, length, slice_get}
+use Rattle.std.proofs.Common.{◌≡◌, sym, ap, ◌∙◌, subst, ℕ, ◌<◌, Some, None, length, slice_get}
 use Rattle.std.proofs.lemmas.Option.{slice_get_within}
 use Rattle.il_core.specs.Procedure.{Procedure}
 use Rattle.il_core.specs.declared.line.Next.{Next}
@@ -10,7 +10,7 @@ use Rattle.sym_terms.specs.Comparison.{Comparison, comparison_of}
 use Rattle.sym_terms.specs.declared.term.Term.{Term}
 use Rattle.sym_terms.specs.declared.term.Literal.{Literal}
 use Rattle.test_graph.specs.Decision.{Change, Decision, ask, done, decision_at}
-use Rattle.test_graph.specs.Lowered.{LeadsTo, Changes, Unfolds, IsEntry, IsLowered}
+use Rattle.test_graph.specs.Lowered.{LeadsTo, Unfolds, IsLowered}
 use Rattle.test_graph.specs.declared.graph.TestNode.{TestNode}
 use Rattle.test_graph.specs.declared.graph.TestNode.TheVariants.{Test, Assign, AtLine, Stop}
 use Rattle.test_graph.specs.declared.graph.TestGraph.{TestGraph}

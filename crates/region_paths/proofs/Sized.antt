@@ -1,5 +1,5 @@
 -- The size of a region is what is tallied down the tree of its long paths.
-use Rattle.std.proofs.Common.{◌≡◌, ◌⊎◌, inl, inr, refl, sym, ap, ◌∙◌, subst, ℕ, zero, suc, ◌+◌, ◌<◌, ◌≤◌, Option, Some, None, List, [], ◌∷◌, ◌++◌, map, length, slice_get, arith}
+use Rattle.std.proofs.Common.{◌≡◌, inl, inr, refl, sym, ap, ◌∙◌, subst, ℕ, zero, suc, ◌+◌, ◌<◌, Option, Some, List, [], ◌∷◌, ◌++◌, map, length, slice_get, arith}
 use Rattle.std.proofs.lemmas.Bool.{cases_lt}
 use Rattle.std.proofs.lemmas.List.{length-map}
 use Rattle.std.proofs.lemmas.Option.{slice_get_past}
@@ -8,11 +8,10 @@ use Rattle.il_core.specs.Procedure.{Procedure}
 use Rattle.il_core.specs.Checked.{IsChecked}
 use Rattle.flow_graph.specs.Graph.{graph_of, node_of, returned_from}
 use Rattle.flow_graph.specs.declared.graph.Node.{Node}
-use Rattle.control_flow.specs.Loop.{IsAssertion, kind_at}
-use Rattle.control_flow.specs.Control.{IsControlOf, IsShape, heads_of}
+use Rattle.control_flow.specs.Loop.{IsAssertion}
+use Rattle.control_flow.specs.Control.{IsControlOf, IsShape}
 use Rattle.control_flow.specs.declared.control.Control.{Control}
 use Rattle.control_flow.specs.declared.control.LoopInfo.{LoopInfo}
-use Rattle.control_flow.specs.declared.control.Shape.{Shape}
 use Rattle.control_flow.specs.declared.control.Shape.TheVariants.{Reducible}
 use Rattle.sym_terms.specs.Tree.{Tree, variable}
 use Rattle.sym_terms.specs.Measure.{measured}
@@ -22,10 +21,9 @@ use Rattle.test_graph.specs.Decision.{decision_at}
 use Rattle.region_paths.specs.Region.{first_lines}
 use Rattle.region_paths.specs.Laws.{BeginsRegion, PathsAreListed}
 use Rattle.region_paths.specs.PathTree.{long_tree, long_paths}
-use Rattle.region_paths.specs.Size.{IsPast, past_of}
+use Rattle.region_paths.specs.Size.{IsPast}
 use Rattle.region_paths.specs.Tally.{tallied, limit_of, empty}
 use Rattle.region_paths.specs.Walk.{LeadInside, region_tree_of}
-use Rattle.region_paths.specs.declared.limit.Limit.{Limit}
 use Rattle.region_paths.specs.declared.tally.Tally.{Tally}
 use Rattle.region_paths.proofs.Cuts.{head_inside}
 use Rattle.region_paths.proofs.Totals.{limit_of_tree}
@@ -77,3 +75,12 @@ pub past_told : (p : Procedure) (loops : List LoopInfo) (pc : ℕ) (o : Option T
 unfolding long_tree long_paths
 past_told p loops pc o listed b e =
     (long_paths p loops pc, (listed p loops pc b).long, sym (ap limit_of e ∙ limit_of_tree (long_tree p loops pc) (own_values (length p.places))))
+
+-- the same, as the code's values say it
+pub past_from : (p : Procedure) (loops : List LoopInfo) (pc : ℕ) (o : Option Tally) (ls : List LoopInfo) (room : ℕ) (a : Tally) → PathsAreListed → BeginsRegion p loops pc
+    → ls ≡ loops → room ≡ length p.lines → a ≡ empty → o ≡ tallied (region_tree_of p ls room (decision_at p pc)) (own_values (length p.places)) a → IsPast p loops pc (limit_of o)
+past_from p loops pc o ls room a listed b e f g h =
+    past_told p loops pc o listed b
+    (h ∙ ap (λ (x : List LoopInfo). tallied (region_tree_of p x room (decision_at p pc)) (own_values (length p.places)) a) e
+    ∙ ap (λ (n : ℕ). tallied (region_tree_of p loops n (decision_at p pc)) (own_values (length p.places)) a) f
+    ∙ ap (tallied (region_tree_of p loops (length p.lines) (decision_at p pc)) (own_values (length p.places))) g)

@@ -1,11 +1,9 @@
 -- What is tallied down a tree is what its paths come to.
-use Rattle.std.proofs.Common.{◌≡◌, refl, sym, ap, ◌∙◌, subst, ℕ, ◌+◌, ◌-◌, ◌*◌, ◌≤◌, Option, Some, None, List, length, arith}
-use Rattle.std.specs.Prelude.{min, max, option_and_then}
-use Rattle.std.specs.Option.{option_map}
+use Rattle.std.proofs.Common.{◌≡◌, refl, ◌-◌, Some, None, List}
 use Rattle.sym_terms.specs.Tree.{Tree}
 use Rattle.sym_terms.specs.declared.measuring.TermMeasure.{TermMeasure}
 use Rattle.sym_terms.specs.Comparison.{Comparison, comparison_under}
-use Rattle.region_paths.specs.PathTree.{PathTree, fork, change}
+use Rattle.region_paths.specs.PathTree.{PathTree, fork}
 use Rattle.region_paths.specs.Tally.{comparison_measured, tallied, with_size}
 use Rattle.region_paths.specs.declared.tally.Tally.{Tally}
 

@@ -8,14 +8,12 @@ use Rattle.std.proofs.lemmas.List.Sums.{sum_by-cons, sum_by-append}
 use Rattle.sym_terms.specs.Tree.{Tree}
 use Rattle.sym_terms.specs.Measure.{nodes, weight, depth}
 use Rattle.sym_terms.specs.Comparison.{Comparison, comparison_under, denied, comparison_nodes, comparison_weight, comparison_depth}
-use Rattle.test_graph.specs.Decision.{Change}
 use Rattle.test_graph.specs.Way.{changed}
-use Rattle.region_paths.specs.PlainRow.{assigned_under}
 use Rattle.region_paths.specs.Listing.{RegionPath}
 use Rattle.region_paths.specs.PathTree.{PathTree, fork, change, stops, begun, paths_down}
 use Rattle.region_paths.specs.Size.{greatest_by, path_nodes, path_weight, path_depth, past_of, limit_passed}
 use Rattle.sym_terms.specs.Substitution.{substituted}
-use Rattle.region_paths.specs.Tally.{comparison_measured, IsTally, with_path, with_size, with_change, tallied, limit_of, empty}
+use Rattle.region_paths.specs.Tally.{IsTally, with_path, with_size, tallied, limit_of, empty}
 use Rattle.region_paths.specs.declared.tally.Tally.{Tally}
 use Rattle.region_paths.specs.declared.limit.Limit.{Limit}
 use Rattle.region_paths.specs.declared.limit.Limit.TheVariants.{Rows, Nodes, Weight, Depth}
@@ -69,9 +67,9 @@ capped_sum : (n s c k : ℕ) → 1 ≤ k → min (min (n + s) 2097153 + min c 20
 capped_sum n s c k some = elim (cases_lt c 2097153) [
   | inl low ↦ let e : min c 2097153 ≡ c = omega (arith, low) in rw e (omega (arith, turned c k))
   | inr high ↦
-    let e : min c 2097153 ≡ 2097153 = omega (arith, high) in
-    let f : 2097153 * k ≡ k * 2097153 = turned 2097153 k in
-    rw e (omega (arith, at_least k c some, at_least k 2097153 some, high, f))
+      let e : min c 2097153 ≡ 2097153 = omega (arith, high) in
+      let f : 2097153 * k ≡ k * 2097153 = turned 2097153 k in
+      rw e (omega (arith, at_least k c some, at_least k 2097153 some, high, f))
 ]
 
 -- the cap of a sum on the way to a greater one
@@ -230,7 +228,7 @@ both_tell f g n w d p q a b (Some e) m k x y = fork_adds f g n w d p q a b e m k
 fork_tells : (f g : RegionPath → RegionPath) (n w d : ℕ) (p q : List RegionPath) (a : Tally) (o : Option Tally) (next : Tally → Option Tally) → Meet f n w d → Meet g n w d → Tells p a o
     → ((b : Tally) → Adds p a b → Tells q b (next b))
     → Tells (map f p ++ map g q) a
-        (option_map (λ (e : Tally). with_size (record { nodes = min n 2097153; weight = min w (2 ^ 100); depth = min d 1001 }) (e.paths - a.paths) e) (option_and_then next o))
+    (option_map (λ (e : Tally). with_size (record { nodes = min n 2097153; weight = min w (2 ^ 100); depth = min d 1001 }) (e.paths - a.paths) e) (option_and_then next o))
 fork_tells f g n w d p q a None next m k x later = omega (arith, x, length-append (map f p) (map g q), length-map p f)
 fork_tells f g n w d p q a (Some b) next m k x later = both_tell f g n w d p q a b (next b) m k x (later b x)
 
@@ -280,7 +278,7 @@ weight_capped c w = same_le c (min w c) w (λ h. omega (arith, h)) (λ h. omega 
 passed_capped : (rows n w d : ℕ) → limit_passed rows (min n 2097153) (min w (2 ^ 100)) (min d 1001) ≡ limit_passed rows n w d
 passed_capped rows n w d =
     ap (λ (x : Bool). first_of (nat_lt 16384 rows) x (nat_le (2 ^ 100) (min w (2 ^ 100))) (nat_lt 1000 (min d 1001)))
-        (same_lt 2097152 (min n 2097153) n (λ h. omega (arith, h)) (λ h. omega (arith, h)))
+    (same_lt 2097152 (min n 2097153) n (λ h. omega (arith, h)) (λ h. omega (arith, h)))
     ∙ ap (λ (x : Bool). first_of (nat_lt 16384 rows) (nat_lt 2097152 n) x (nat_lt 1000 (min d 1001))) (weight_capped (2 ^ 100) w)
     ∙ ap (first_of (nat_lt 16384 rows) (nat_lt 2097152 n) (nat_le (2 ^ 100) w)) (same_lt 1000 (min d 1001) d (λ h. omega (arith, h)) (λ h. omega (arith, h)))
 

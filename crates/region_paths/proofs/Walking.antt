@@ -1,6 +1,6 @@
 -- What the walk over the nodes of the lowered graph does at each kind of node.
-use Rattle.std.proofs.Common.{◌≡◌, inl, inr, refl, sym, ap, ◌∙◌, subst, ℕ, zero, suc, ◌+◌, ◌-◌, ◌*◌, ◌<◌, ◌≤◌, Option, Some, None, List, [], ◌∷◌, map, length, slice_get, take, drop, arith}
-use Rattle.std.specs.Prelude.{option_and_then, slice_set}
+use Rattle.std.proofs.Common.{◌≡◌, inl, inr, refl, sym, ap, ◌∙◌, subst, ℕ, zero, suc, ◌+◌, ◌-◌, ◌*◌, ◌<◌, Option, Some, None, List, [], ◌∷◌, map, length, slice_get, take, drop, arith}
+use Rattle.std.specs.Prelude.{slice_set}
 use Rattle.std.specs.Option.{option_map}
 use Rattle.std.proofs.lemmas.List.{map-set, set-set, set-get_or, take_all}
 use Rattle.std.proofs.lemmas.Option.{slice_get_within, get_or_from_slice_get}
@@ -12,15 +12,14 @@ use Rattle.il_core.specs.declared.line.Halt.{Halt}
 use Rattle.sym_terms.specs.Tree.{Tree, tree_of}
 use Rattle.sym_terms.specs.Measure.{measured}
 use Rattle.sym_terms.specs.Substitution.{substituted, HasPlacesBelow}
-use Rattle.sym_terms.specs.Comparison.{Comparison, comparison_of, comparison_under, ComparesPlacesBelow}
+use Rattle.sym_terms.specs.Comparison.{comparison_of, comparison_under, ComparesPlacesBelow}
 use Rattle.sym_terms.specs.declared.term.Term.{Term}
 use Rattle.sym_terms.specs.declared.term.Literal.{Literal}
 use Rattle.sym_terms.specs.declared.measuring.TermMeasure.{TermMeasure}
-use Rattle.test_graph.specs.Decision.{Change, Decision, ask, done, decision_at}
+use Rattle.test_graph.specs.Decision.{Decision, done, decision_at}
 use Rattle.test_graph.specs.Way.{changed}
 use Rattle.test_graph.specs.Places.{DecidesPlacesBelow}
 use Rattle.test_graph.specs.Lowered.{Unfolds, IsLowered}
-use Rattle.test_graph.specs.declared.graph.TestNode.{TestNode}
 use Rattle.test_graph.specs.declared.graph.TestNode.TheVariants.{Test, Assign, AtLine, Stop}
 use Rattle.test_graph.specs.declared.graph.TestGraph.{TestGraph}
 use Rattle.test_graph.proofs.Speaking.{decides-below}
@@ -33,7 +32,7 @@ use Rattle.region_paths.specs.PathTree.{PathTree, change, grafted, below, tree_t
 use Rattle.region_paths.specs.Tally.{comparison_measured, with_size, with_path, tallied}
 use Rattle.region_paths.specs.Walk.{StandsAt}
 use Rattle.region_paths.specs.declared.tally.Tally.{Tally}
-use Rattle.region_paths.proofs.Nodes.{AtTest, at_test, AtAssign, at_assign, at_line, at_stop, first_unfolds}
+use Rattle.region_paths.proofs.Nodes.{at_test, at_assign, at_line, at_stop, first_unfolds}
 
 -- a size that the paths which were added to a tally meet
 abbrev pub met_by : TermMeasure → Tally → Option Tally → Option Tally

@@ -1,5 +1,5 @@
 -- The tree below a node of the lowered graph: a node stands for some decisions of a line.
-use Rattle.std.specs.Prelude.{◌≡◌, ℕ, ◌<◌, List, length}
+use Rattle.std.specs.Prelude.{ℕ, ◌<◌, List, length}
 use Rattle.il_core.specs.LineGraph.{IsIn}
 use Rattle.il_core.specs.Procedure.{Procedure}
 use Rattle.control_flow.specs.declared.control.LoopInfo.{LoopInfo}

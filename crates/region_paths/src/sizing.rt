@@ -44,7 +44,13 @@ fn own_sizes(alloc: Global, count: usize) -> Result<Vec<TermMeasure>, NoMemory>
 /// `graph` and `control` are those of `proc`, whose shape is reducible, and `pc` is line 0 or a loop head. It walks down
 /// the tree of decisions once, with the capped sizes of the places' terms in place of the terms, and stops at too many
 /// paths, so that it takes memory for the places alone.
-pub fn size(alloc: Global, proc: &CheckedProc, graph: &TestGraph, control: &Control, pc: usize) -> Result<Option<Limit>, NoMemory>
+pub fn size(
+    alloc: Global,
+    proc: &CheckedProc,
+    graph: &TestGraph,
+    control: &Control,
+    pc: usize,
+) -> Result<Option<Limit>, NoMemory>
     requires lowered { IsLowered (procedure_of proc.now) graph.now }
     requires control { IsControlOf (graph_of (procedure_of proc.now)) control.now }
     requires shape { control.now.shape ≡ Reducible }
@@ -55,7 +61,13 @@ pub fn size(alloc: Global, proc: &CheckedProc, graph: &TestGraph, control: &Cont
     let mut sizes = own_sizes(alloc, proc.places().len())?;
     let first = first_node(proc, graph, pc);
     let tally = follow(
-        proc, graph, control.loops.as_slice(), first, proc.lines().len(), &mut sizes, Tally::empty(),
+        proc,
+        graph,
+        control.loops.as_slice(),
+        first,
+        proc.lines().len(),
+        &mut sizes,
+        Tally::empty(),
     );
     match tally {
         Some(tally) => Ok(tally.limit()),

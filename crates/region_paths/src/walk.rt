@@ -57,7 +57,14 @@ fn leading_at(loops: &[LoopInfo], at: usize) -> &[usize]
 
 /// Adds the paths from node `id` on, which go on through the leading assertions that are left; `None` where there are
 /// too many.
-fn follow_leading(proc: &CheckedProc, graph: &TestGraph, id: usize, left: &[usize], env: &mut [TermMeasure], tally: Tally) -> Option<Tally>
+fn follow_leading(
+    proc: &CheckedProc,
+    graph: &TestGraph,
+    id: usize,
+    left: &[usize],
+    env: &mut [TermMeasure],
+    tally: Tally,
+) -> Option<Tally>
     requires checked { IsChecked (procedure_of proc.now) }
     requires lowered { IsLowered (procedure_of proc.now) graph.now }
     requires stands { StandsAt (procedure_of proc.now) graph.now id }
@@ -70,7 +77,9 @@ fn follow_leading(proc: &CheckedProc, graph: &TestGraph, id: usize, left: &[usiz
     ensures env { env.new ≡ env.old }
 {
     match graph.nodes.get(id) {
-        Some(TestNode::Test(literal, met, unmet)) => match follow_leading(proc, graph, *met, left, env, tally) {
+        Some(TestNode::Test(literal, met, unmet)) => match follow_leading(
+            proc, graph, *met, left, env, tally,
+        ) {
             Some(first) => {
                 let both = follow_leading(proc, graph, *unmet, left, env, first);
                 met_by(comparison_measure(literal, env), tally, both)
@@ -98,7 +107,15 @@ fn follow_leading(proc: &CheckedProc, graph: &TestGraph, id: usize, left: &[usiz
 
 /// Adds the paths from node `id` on, which go on through the lines of the region, as far as `room` lines; `None` where
 /// there are too many.
-pub fn follow(proc: &CheckedProc, graph: &TestGraph, loops: &[LoopInfo], id: usize, room: usize, env: &mut [TermMeasure], tally: Tally) -> Option<Tally>
+pub fn follow(
+    proc: &CheckedProc,
+    graph: &TestGraph,
+    loops: &[LoopInfo],
+    id: usize,
+    room: usize,
+    env: &mut [TermMeasure],
+    tally: Tally,
+) -> Option<Tally>
     requires checked { IsChecked (procedure_of proc.now) }
     requires lowered { IsLowered (procedure_of proc.now) graph.now }
     requires stands { StandsAt (procedure_of proc.now) graph.now id }
@@ -111,7 +128,9 @@ pub fn follow(proc: &CheckedProc, graph: &TestGraph, loops: &[LoopInfo], id: usi
     ensures env { env.new ≡ env.old }
 {
     match graph.nodes.get(id) {
-        Some(TestNode::Test(literal, met, unmet)) => match follow(proc, graph, loops, *met, room, env, tally) {
+        Some(TestNode::Test(literal, met, unmet)) => match follow(
+            proc, graph, loops, *met, room, env, tally,
+        ) {
             Some(first) => {
                 let both = follow(proc, graph, loops, *unmet, room, env, first);
                 met_by(comparison_measure(literal, env), tally, both)

@@ -1,23 +1,20 @@
-use Rattle.std.proofs.Common.{◌≡◌, inl, inr, take, drop, ◌-◌, suc, refl, sym, ap, ◌∙◌, subst, ℕ, ◌+◌, ◌*◌, ◌<◌, ◌≤◌, Option, Some, None, List, [], ◌∷◌, map, length, slice_get, arith}
+use Rattle.std.proofs.Common.{◌≡◌, ◌-◌, suc, sym, ap, ◌∙◌, subst, ℕ, ◌+◌, ◌*◌, ◌<◌, Some, None, List, map, length, slice_get, arith}
 use Rattle.std.specs.Prelude.{All, slice_set}
-use Rattle.std.proofs.lemmas.List.{length-set, length-map}
+use Rattle.std.proofs.lemmas.List.{length-set}
 use Rattle.std.proofs.lemmas.Option.{slice_get_within}
-use Rattle.il_core.specs.Procedure.{instruction_of}
 use Rattle.il_core.specs.Checked.{procedure_of}
 use Rattle.sym_terms.specs.Tree.{tree_of}
 use Rattle.sym_terms.specs.Measure.{measured, IsCapped}
 use Rattle.sym_terms.specs.declared.measuring.TermMeasure.{TermMeasure}
 use Rattle.test_graph.specs.Decision.{Change, decision_at}
 use Rattle.test_graph.specs.Way.{changed}
-use Rattle.test_graph.specs.declared.graph.TestNode.{TestNode}
 use Rattle.test_graph.specs.declared.graph.TestNode.TheVariants.{Test, Assign, AtLine, Stop}
 use Rattle.region_paths.specs.PathTree.{PathTree, passed, leading_tree}
-use Rattle.region_paths.specs.Walk.{StandsAt, AreLines}
 use Rattle.region_paths.specs.Tally.{tallied}
 use Rattle.il_core.specs.LineGraph.{IsIn}
 use Rattle.region_paths.specs.Region.{leading_of}
 use Rattle.region_paths.proofs.Nodes.{node_there, at_line}
-use Rattle.region_paths.proofs.Walking.{test_none, test_some, measured_changed, assign_exact, line_exact, stop_exact, stands_met, stands_unmet, compared_places, stands_then, assigned_places, stands_line, line_less_at, put_back, beyond, at_head, at_other, no_room, more_room, same_below, stands_first, in_at, line_unfolds}
+use Rattle.region_paths.proofs.Walking.{test_none, test_some, measured_changed, assign_exact, line_exact, stop_exact, stands_met, stands_unmet, compared_places, stands_then, assigned_places, line_less_at, put_back, beyond, at_head, no_room, more_room, same_below, stands_first, in_at, line_unfolds}
 use Rattle.region_paths.proofs.walk.+follow.Goals as goal
 
 pub follow-requires : goal.follow-requires
@@ -96,8 +93,8 @@ returns-in-Some-clause-exact t c =
     let last : map measured terms ≡ c.follow-both.new.env = again ∙ sym c.follow-both.ensures.env in
     c.met_by.ensures.exact
     ∙ test_some (procedure_of c.args.proc.now) c.args.graph.now (beyond (procedure_of c.args.proc.now) c.args.loops.now c.args.room) c.args.id c.in-Some-Test.literal c.in-Some-Test.met c.in-Some-Test.unmet d terms c.args.tally c.in-Some.first
-        c.follow-both.result c.comparison_measure.result c.requires.lowered node u (λ x k. c.in-Some.ensures.exact terms x e k)
-        (λ x k. c.follow-both.ensures.exact terms x again k) (c.comparison_measure.ensures.exact terms last)
+    c.follow-both.result c.comparison_measure.result c.requires.lowered node u (λ x k. c.in-Some.ensures.exact terms x e k)
+    (λ x k. c.follow-both.ensures.exact terms x again k) (c.comparison_measure.ensures.exact terms last)
 
 pub returns-in-None-follow-clause-exact : goal.returns-in-None-follow-clause-exact
 returns-in-None-follow-clause-exact t c =
@@ -116,8 +113,8 @@ returns-in-Some-Assign-clause-exact t c =
     let after = measured_changed c.in-Some-Assign.place (tree_of c.in-Some-Assign.term) terms c.args.env.now c.measure-size.result e size ∙ sym c.exchange-was.ensures.after in
     c.met_by-in-Some-Assign.ensures.exact
     ∙ assign_exact (procedure_of c.args.proc.now) c.args.graph.now (beyond (procedure_of c.args.proc.now) c.args.loops.now c.args.room) c.args.id c.in-Some-Assign.place c.in-Some-Assign.term c.in-Some-Assign.then d terms c.args.tally
-        c.follow-behind.result c.measure-size.result c.requires.lowered node u
-        (λ x k. c.follow-behind.ensures.exact (changed (Some (let y : Change = record { place = c.in-Some-Assign.place; term = tree_of c.in-Some-Assign.term } in y)) terms) x after k) size
+    c.follow-behind.result c.measure-size.result c.requires.lowered node u
+    (λ x k. c.follow-behind.ensures.exact (changed (Some (let y : Change = record { place = c.in-Some-Assign.place; term = tree_of c.in-Some-Assign.term } in y)) terms) x after k) size
 
 pub returns-in-Some-Assign-clause-env : goal.returns-in-Some-Assign-clause-env
 returns-in-Some-Assign-clause-env t c =
@@ -164,8 +161,8 @@ returns-in-Some-loop_of-clause-exact t c = λ terms d e u.
     let is = at_line (procedure_of c.args.proc.now) c.args.graph.now c.args.id c.in-Some-AtLine.line c.in-Some-AtLine.first d c.requires.lowered node u in
     c.follow_leading.ensures.exact c.in-Some-AtLine.line terms d e u
     ∙ ap (λ (x : PathTree). tallied x terms c.args.tally)
-        (same_below (passed (leading_tree (procedure_of c.args.proc.now) c.in-Some-AtLine.line c.leading_at.result.now)) (beyond (procedure_of c.args.proc.now) c.args.loops.now c.args.room) d c.in-Some-AtLine.line is
-            (ap (leading_tree (procedure_of c.args.proc.now) c.in-Some-AtLine.line) same ∙ sym (at_head (procedure_of c.args.proc.now) c.args.loops.now c.args.room c.in-Some-AtLine.line k.2)))
+    (same_below (passed (leading_tree (procedure_of c.args.proc.now) c.in-Some-AtLine.line c.leading_at.result.now)) (beyond (procedure_of c.args.proc.now) c.args.loops.now c.args.room) d c.in-Some-AtLine.line is
+    (ap (leading_tree (procedure_of c.args.proc.now) c.in-Some-AtLine.line) same ∙ sym (at_head (procedure_of c.args.proc.now) c.args.loops.now c.args.room c.in-Some-AtLine.line k.2)))
 
 pub returns-then-room-eq0-clause-exact : goal.returns-then-room-eq0-clause-exact
 returns-then-room-eq0-clause-exact t c = λ terms d e u.
@@ -183,4 +180,4 @@ returns-else-room-eq0-clause-exact t c = λ terms d e u.
     let unfolds = line_unfolds (procedure_of c.args.proc.now) c.args.graph.now c.args.id c.in-Some-AtLine.line c.in-Some-AtLine.first d c.requires.lowered node u in
     line_exact (procedure_of c.args.proc.now) c.args.graph.now (beyond (procedure_of c.args.proc.now) c.args.loops.now c.args.room) c.args.id c.in-Some-AtLine.line c.in-Some-AtLine.first d terms c.args.tally c.follow-else-room-eq0.result c.requires.lowered node u
     (c.follow-else-room-eq0.ensures.exact terms (decision_at (procedure_of c.args.proc.now) c.in-Some-AtLine.line) e unfolds
-        ∙ more_room (procedure_of c.args.proc.now) c.args.loops.now c.args.room (c.args.room - 1) c.in-Some-AtLine.line terms c.args.tally c.in-None-loop_of.ensures (omega (arith, some)))
+    ∙ more_room (procedure_of c.args.proc.now) c.args.loops.now c.args.room (c.args.room - 1) c.in-Some-AtLine.line terms c.args.tally c.in-None-loop_of.ensures (omega (arith, some)))

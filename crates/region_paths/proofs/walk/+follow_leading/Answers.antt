@@ -1,4 +1,4 @@
-use Rattle.std.proofs.Common.{◌≡◌, inl, inr, take, drop, ◌-◌, suc, refl, sym, ap, ◌∙◌, subst, ℕ, ◌+◌, ◌*◌, ◌<◌, ◌≤◌, Option, Some, None, List, [], ◌∷◌, map, length, slice_get, arith}
+use Rattle.std.proofs.Common.{◌≡◌, inl, inr, take, drop, ◌-◌, suc, refl, sym, ap, ◌∙◌, subst, ℕ, ◌+◌, ◌*◌, ◌<◌, Some, None, List, map, length, slice_get, arith}
 use Rattle.std.specs.Prelude.{All, slice_set}
 use Rattle.std.proofs.lemmas.List.{length-set, length-map}
 use Rattle.std.proofs.lemmas.Option.{slice_get_within}
@@ -9,10 +9,9 @@ use Rattle.sym_terms.specs.Measure.{measured, IsCapped}
 use Rattle.sym_terms.specs.declared.measuring.TermMeasure.{TermMeasure}
 use Rattle.test_graph.specs.Decision.{Change, decision_at}
 use Rattle.test_graph.specs.Way.{changed}
-use Rattle.test_graph.specs.declared.graph.TestNode.{TestNode}
 use Rattle.test_graph.specs.declared.graph.TestNode.TheVariants.{Test, Assign, AtLine, Stop}
 use Rattle.region_paths.specs.PathTree.{passed, leading_tree}
-use Rattle.region_paths.specs.Walk.{StandsAt, AreLines}
+use Rattle.region_paths.specs.Walk.{AreLines}
 use Rattle.region_paths.specs.Tally.{tallied}
 use Rattle.region_paths.proofs.Nodes.{node_there}
 use Rattle.region_paths.proofs.Walking.{test_none, test_some, measured_changed, assign_exact, line_exact, stop_exact, stands_met, stands_unmet, compared_places, stands_then, assigned_places, stands_line, line_less_at, cons_of, nil_of, put_back}
@@ -114,8 +113,8 @@ returns-in-Some-clause-exact t c =
     let last : map measured terms ≡ c.follow_leading-both.new.env = again ∙ sym c.follow_leading-both.ensures.env in
     c.met_by.ensures.exact
     ∙ test_some (procedure_of c.args.proc.now) c.args.graph.now (passed (leading_tree (procedure_of c.args.proc.now) head c.args.left.now)) c.args.id c.in-Some-Test.literal c.in-Some-Test.met c.in-Some-Test.unmet d terms c.args.tally c.in-Some.first
-        c.follow_leading-both.result c.comparison_measure.result c.requires.lowered node u (λ x k. c.in-Some.ensures.exact head terms x e k)
-        (λ x k. c.follow_leading-both.ensures.exact head terms x again k) (c.comparison_measure.ensures.exact terms last)
+    c.follow_leading-both.result c.comparison_measure.result c.requires.lowered node u (λ x k. c.in-Some.ensures.exact head terms x e k)
+    (λ x k. c.follow_leading-both.ensures.exact head terms x again k) (c.comparison_measure.ensures.exact terms last)
 
 pub returns-in-None-follow_leading-clause-exact : goal.returns-in-None-follow_leading-clause-exact
 returns-in-None-follow_leading-clause-exact t c =
@@ -134,8 +133,8 @@ returns-in-Some-Assign-clause-exact t c =
     let after = measured_changed c.in-Some-Assign.place (tree_of c.in-Some-Assign.term) terms c.args.env.now c.measure-size.result e size ∙ sym c.exchange-was.ensures.after in
     c.met_by-in-Some-Assign.ensures.exact
     ∙ assign_exact (procedure_of c.args.proc.now) c.args.graph.now (passed (leading_tree (procedure_of c.args.proc.now) head c.args.left.now)) c.args.id c.in-Some-Assign.place c.in-Some-Assign.term c.in-Some-Assign.then d terms c.args.tally
-        c.follow_leading-behind.result c.measure-size.result c.requires.lowered node u
-        (λ x k. c.follow_leading-behind.ensures.exact head (changed (Some (let y : Change = record { place = c.in-Some-Assign.place; term = tree_of c.in-Some-Assign.term } in y)) terms) x after k) size
+    c.follow_leading-behind.result c.measure-size.result c.requires.lowered node u
+    (λ x k. c.follow_leading-behind.ensures.exact head (changed (Some (let y : Change = record { place = c.in-Some-Assign.place; term = tree_of c.in-Some-Assign.term } in y)) terms) x after k) size
 
 pub returns-in-Some-Assign-clause-env : goal.returns-in-Some-Assign-clause-env
 returns-in-Some-Assign-clause-env t c =
@@ -152,7 +151,7 @@ returns-in-Some-first-clause-exact t c =
     line_exact (procedure_of c.args.proc.now) c.args.graph.now (passed (leading_tree (procedure_of c.args.proc.now) head c.args.left.now)) c.args.id c.in-Some-AtLine.field-0-0 c.in-Some-AtLine.field-0-1 d terms c.args.tally
     c.follow_leading-in-Some-first.result c.requires.lowered node u
     (subst (λ (ls : List ℕ). c.follow_leading-in-Some-first.result ≡ tallied (leading_tree (procedure_of c.args.proc.now) head ls) terms c.args.tally) (sym cons)
-        (c.follow_leading-in-Some-first.ensures.exact head terms (decision_at (procedure_of c.args.proc.now) c.in-Some-first.line.now) e c.first_node-first.ensures.unfolds))
+    (c.follow_leading-in-Some-first.ensures.exact head terms (decision_at (procedure_of c.args.proc.now) c.in-Some-first.line.now) e c.first_node-first.ensures.unfolds))
 
 pub returns-in-None-first-clause-exact : goal.returns-in-None-first-clause-exact
 returns-in-None-first-clause-exact t c =

@@ -1,4 +1,4 @@
-use Rattle.std.proofs.Common.{◌≡◌, sym, ap, ◌∙◌, ℕ, Some, None, slice_get, length, ◌<◌, arith}
+use Rattle.std.proofs.Common.{◌≡◌, sym, ap, ◌∙◌, Some, None, slice_get, length, ◌<◌, arith}
 use Rattle.il_core.specs.Checked.{procedure_of}
 use Rattle.std.proofs.lemmas.List.{length-map}
 use Rattle.il_core.specs.Procedure.{instruction_of}
