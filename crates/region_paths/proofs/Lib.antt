@@ -8,3 +8,8 @@ pub mod Fits
 pub mod Trees
 pub mod Steps
 pub mod Listed
+pub mod Nodes
+pub mod Tallies
+pub mod Totals
+pub mod Walking
+pub mod Sized

@@ -5,4 +5,6 @@ pub mod Listing
 pub mod Stepping
 pub mod PathTree
 pub mod Size
+pub mod Tally
+pub mod Walk
 pub mod Laws

@@ -6,8 +6,8 @@ use Rattle.control_flow.specs.declared.control.LoopInfo.{LoopInfo}
 use Rattle.sym_terms.specs.Measure.{nodes, weight, depth}
 use Rattle.sym_terms.specs.Comparison.{comparison_nodes, comparison_weight, comparison_depth}
 use Rattle.region_paths.specs.Listing.{RegionPath, AreLongPaths}
-use Rattle.region_paths.specs.declared.size.Limit.{Limit}
-use Rattle.region_paths.specs.declared.size.Limit.TheVariants.{Rows, Nodes, Weight, Depth}
+use Rattle.region_paths.specs.declared.limit.Limit.{Limit}
+use Rattle.region_paths.specs.declared.limit.Limit.TheVariants.{Rows, Nodes, Weight, Depth}
 
 -- the greatest of the numbers that f gives; 0 where there is none
 abbrev pub greatest_by : {A : Type 0} → (A → ℕ) → List A → ℕ

@@ -6,9 +6,13 @@
 #![tactic(auto)]
 
 mod laws;
-mod size;
+mod limit;
+mod sizing;
+mod tally;
+mod walk;
 
 pub use laws::{
     decisions_tell_paths, heads_cut_cycles, inputs_take_one_path, one_listing, paths_are_listed,
 };
-pub use size::Limit;
+pub use limit::Limit;
+pub use sizing::size;
