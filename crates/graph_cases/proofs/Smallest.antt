@@ -29,7 +29,7 @@ forked-fits : (pc : ℕ) (i : Instruction) → slice_get (pre (truth true) ∷ i
 forked-fits zero i e = let s = same_Some (pre (truth true)) i e in rw (← s) (refl, record { typed = tt; narrow = tt })
 forked-fits (suc zero) i e =
     let s = same_Some (if_true (truth true) 2) i e in
-    rw (← s) (omega arith, (record { inside = omega arith; later = omega arith; other = λ k. absurd (omega arith) }, record { typed = tt; narrow = tt }))
+    rw (← s) (omega arith, record { inside = omega arith; later = omega arith; other = λ k. absurd (omega arith) }, record { typed = tt; narrow = tt })
 forked-fits (suc (suc zero)) i e = let s = same_Some end_if i e in rw (← s) (omega arith)
 forked-fits (suc (suc (suc zero))) i e = let s = same_Some (end_procedure (truth true)) i e in rw (← s) (refl, record { typed = tt; narrow = tt })
 forked-fits (suc (suc (suc (suc pc)))) i e = absurd (none-some i e)
