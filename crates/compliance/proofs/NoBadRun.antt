@@ -44,7 +44,8 @@ use Rattle.region_paths.proofs.Marks.{length-head_marks, mark_of}
 use Rattle.path_inputs.specs.Core.{is_plain, is_disequality, core, core_disequalities}
 use Rattle.path_inputs.specs.Least.{Meets, IsPlainlyRefuted}
 use Rattle.compliance.specs.Opening.{opening, StayWithin}
-use Rattle.compliance.specs.Threat.{stops_badly, IsThreat, form_of_comparison, forms_of}
+use Rattle.semantic_tables.specs.Row.{comparison_form, forms_of}
+use Rattle.compliance.specs.Threat.{stops_badly, IsThreat}
 use Rattle.compliance.specs.Laws.{ThreatsAreRefuted}
 use Rattle.compliance.proofs.CutRuns.{EndsWell, GoodPiece, cut_runs}
 use Rattle.compliance.proofs.Members.{from_filter, from_take}
@@ -111,7 +112,7 @@ leaves_opening p loops pc s r h law c regions in_range passed k holds e within =
         ∙ ap (λ (x : PlainRow). all_hold x.literals s) (sym k.row) ∙ holds
 
 -- the form of each literal that holds in a state holds there
-pub forms_hold : (cs : List Comparison) (s : State) → all_hold cs s ≡ true → (f : LiteralForm) → IsIn (map form_of_comparison cs) f → form_holds f s ≡ true
+pub forms_hold : (cs : List Comparison) (s : State) → all_hold cs s ≡ true → (f : LiteralForm) → IsIn (map comparison_form cs) f → form_holds f s ≡ true
 forms_hold [] s h f i = absurd i
 forms_hold (c ∷ cs) s h f (inl e) =
     ap (λ x. form_holds x s) (sym e) ∙ literal_keeps c.relation c.left c.right s ∙ (and_parts (comparison_holds c s) (all_hold cs s) h).0

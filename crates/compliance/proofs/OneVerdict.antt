@@ -10,7 +10,7 @@ use Rattle.sym_simplify.specs.Literal.{LiteralForm}
 use Rattle.region_paths.specs.Listing.{RegionPath}
 use Rattle.path_inputs.specs.Core.{split_by}
 use Rattle.path_inputs.specs.Least.{Meets, IsLeastInput}
-use Rattle.compliance.specs.Threat.{forms_of}
+use Rattle.semantic_tables.specs.Row.{forms_of}
 use Rattle.compliance.specs.Verdict.{TakesPath, IsFirstLoose, HasVerdict}
 use Rattle.compliance.specs.declared.threat.Verdict.{Verdict}
 use Rattle.compliance.specs.declared.threat.Verdict.TheVariants.{Refuted, Shown, Open}

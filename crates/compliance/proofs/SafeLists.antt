@@ -10,7 +10,8 @@ use Rattle.region_paths.specs.Size.{IsPast, past_of}
 use Rattle.region_paths.specs.declared.size.Limit.{Limit}
 use Rattle.region_paths.specs.Laws.{OneListing}
 use Rattle.path_inputs.specs.Least.{IsPlainlyRefuted}
-use Rattle.compliance.specs.Threat.{IsThreat, AreThreats, forms_of}
+use Rattle.semantic_tables.specs.Row.{forms_of}
+use Rattle.compliance.specs.Threat.{IsThreat, AreThreats}
 use Rattle.compliance.specs.Verdict.{HasVerdict}
 use Rattle.compliance.specs.Safe.{IsTold, AreTold, AreListedWithin, AreThreatsOf}
 use Rattle.compliance.specs.Laws.{ThreatsAreRefuted}

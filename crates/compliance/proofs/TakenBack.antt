@@ -30,7 +30,8 @@ use Rattle.region_paths.specs.Listing.{RegionPath, IsLongPath}
 use Rattle.region_paths.specs.Laws.{BeginsRegion}
 use Rattle.region_paths.proofs.Fits.{fits, along-holds}
 use Rattle.path_inputs.specs.Least.{Meets}
-use Rattle.compliance.specs.Threat.{IsThreat, forms_of}
+use Rattle.semantic_tables.specs.Row.{forms_of}
+use Rattle.compliance.specs.Threat.{IsThreat}
 use Rattle.compliance.specs.Verdict.{TakesDecisions, TakesPath}
 use Rattle.compliance.proofs.Members.{from_filter}
 use Rattle.compliance.proofs.QuietLines.{IsQuiet, quiet_step, plain_step}

@@ -35,7 +35,8 @@ use Rattle.sym_terms.specs.Comparison.{Comparison, comparison_holds}
 use Rattle.sym_simplify.specs.Literal.{LiteralForm, form_holds}
 use Rattle.sym_simplify.proofs.LiteralForms.{literal_keeps}
 use Rattle.path_inputs.specs.Least.{Meets}
-use Rattle.compliance.specs.Threat.{stops_badly, IsThreat, form_of_comparison, forms_of}
+use Rattle.semantic_tables.specs.Row.{comparison_form, forms_of}
+use Rattle.compliance.specs.Threat.{stops_badly, IsThreat}
 use Rattle.compliance.specs.Verdict.{TakesDecisions, TakesPath}
 use Rattle.compliance.proofs.QuietLines.{IsQuiet, quiet_step, kind_there, plain_step}
 use Rattle.compliance.proofs.Openings.{leading_lists, leading_quiet}
@@ -190,10 +191,10 @@ path_taken p loops pc s r h law c regions range k e holds =
         ∙ ap (λ (x : PlainRow). all_hold x.literals s) (sym k.row) ∙ holds
 
 -- literals whose forms all hold in a state hold there
-forms_met : (cs : List Comparison) (s : State) → ((f : LiteralForm) → IsIn (map form_of_comparison cs) f → form_holds f s ≡ true) → all_hold cs s ≡ true
+forms_met : (cs : List Comparison) (s : State) → ((f : LiteralForm) → IsIn (map comparison_form cs) f → form_holds f s ≡ true) → all_hold cs s ≡ true
 forms_met [] s h = refl
 forms_met (c ∷ cs) s h =
-    let e : comparison_holds c s ≡ true = sym (literal_keeps c.relation c.left c.right s) ∙ h (form_of_comparison c) (inl refl) in
+    let e : comparison_holds c s ≡ true = sym (literal_keeps c.relation c.left c.right s) ∙ h (comparison_form c) (inl refl) in
     ap (λ b. b && all_hold cs s) e ∙ forms_met cs s (λ f i. h f (inr i))
 
 -- an input that meets each literal of a threat takes it

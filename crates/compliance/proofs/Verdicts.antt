@@ -14,7 +14,8 @@ use Rattle.region_paths.specs.Laws.{BeginsRegion}
 use Rattle.path_inputs.specs.Core.{is_disequality, IsLoose}
 use Rattle.path_inputs.specs.Least.{IsLeastInput}
 use Rattle.path_inputs.specs.Laws.{AreInCore, LeastMeetsCore, UnmetIsLoose}
-use Rattle.compliance.specs.Threat.{IsThreat, forms_of}
+use Rattle.semantic_tables.specs.Row.{forms_of}
+use Rattle.compliance.specs.Threat.{IsThreat}
 use Rattle.compliance.specs.Verdict.{TakesPath, IsFirstLoose}
 use Rattle.compliance.proofs.Taking.{threat_taken}
 

@@ -17,7 +17,8 @@ use Rattle.region_paths.specs.Laws.{BeginsRegion}
 use Rattle.path_inputs.specs.Least.{Meets, IsPlainlyRefuted, IsLeastInput}
 use Rattle.path_inputs.specs.Laws.{AreInCore}
 use Rattle.compliance.specs.Opening.{opening, StayWithin}
-use Rattle.compliance.specs.Threat.{IsThreat, AreThreats, forms_of}
+use Rattle.semantic_tables.specs.Row.{forms_of}
+use Rattle.compliance.specs.Threat.{IsThreat, AreThreats}
 use Rattle.compliance.specs.Verdict.{TakesPath, IsFirstLoose, HasVerdict}
 use Rattle.compliance.specs.Safe.{AreThreatsOf, IsSafeWhereRefuted}
 use Rattle.compliance.specs.declared.threat.Threat.{Threat}

@@ -10,7 +10,8 @@ use Rattle.region_paths.specs.Region.{first_lines}
 use Rattle.region_paths.specs.Listing.{RegionPath}
 use Rattle.region_paths.specs.Size.{IsPast}
 use Rattle.region_paths.specs.declared.size.Limit.{Limit}
-use Rattle.compliance.specs.Threat.{AreThreats, forms_of}
+use Rattle.semantic_tables.specs.Row.{forms_of}
+use Rattle.compliance.specs.Threat.{AreThreats}
 use Rattle.compliance.specs.Verdict.{HasVerdict}
 use Rattle.compliance.specs.declared.threat.Threat.{Threat}
 use Rattle.compliance.specs.declared.threat.Verdict.TheVariants.{Refuted}

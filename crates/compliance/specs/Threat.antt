@@ -1,13 +1,11 @@
 -- A threat is a long path of a region that stops at a failed assertion, a failed postcondition, a division by zero or a value out of range. A
 -- long path that stops within the opening of its region is none, since whoever comes to the region's head has passed the opening.
-use Rattle.std.specs.Prelude.{◌≡◌, ℕ, Bool, true, false, List, map}
+use Rattle.std.specs.Prelude.{◌≡◌, ℕ, Bool, true, false, List}
 use Rattle.il_core.specs.Procedure.{Procedure}
 use Rattle.il_core.specs.Run.{is_bad}
 use Rattle.il_core.specs.declared.line.Stop.{Stop}
 use Rattle.il_core.specs.declared.line.Stop.TheVariants as stop
 use Rattle.control_flow.specs.declared.control.LoopInfo.{LoopInfo}
-use Rattle.sym_terms.specs.Comparison.{Comparison}
-use Rattle.sym_simplify.specs.Literal.{LiteralForm, difference, compared}
 use Rattle.region_paths.specs.Listing.{RegionPath, IsLongPath, ListsPaths}
 use Rattle.compliance.specs.Opening.{opening, StayWithin}
 
@@ -23,10 +21,3 @@ pub record IsThreat (p : Procedure) (loops : List LoopInfo) (pc : ℕ) (r : Regi
 -- the threats of a region, in the order of their decisions
 abbrev pub AreThreats : Procedure → List LoopInfo → ℕ → List RegionPath → Type 0
 AreThreats p loops pc rows = ListsPaths (IsThreat p loops pc) rows
-
-abbrev pub form_of_comparison : Comparison → LiteralForm
-form_of_comparison c = compared c.relation (difference c.left c.right)
-
--- the forms of a path's literals, in order
-abbrev pub forms_of : RegionPath → List LiteralForm
-forms_of r = map form_of_comparison r.row.literals

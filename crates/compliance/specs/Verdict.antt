@@ -12,7 +12,7 @@ use Rattle.test_graph.specs.Way.{decisions}
 use Rattle.region_paths.specs.Listing.{RegionPath}
 use Rattle.path_inputs.specs.Core.{IsLoose}
 use Rattle.path_inputs.specs.Least.{IsPlainlyRefuted, IsLeastInput}
-use Rattle.compliance.specs.Threat.{forms_of}
+use Rattle.semantic_tables.specs.Row.{forms_of}
 use Rattle.compliance.specs.declared.threat.Verdict.{Verdict}
 use Rattle.compliance.specs.declared.threat.Verdict.TheVariants.{Refuted, Shown, Open}
 

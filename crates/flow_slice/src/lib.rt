@@ -5,6 +5,9 @@
 //! the side from which a relevant line is nearer (`specs/Slice.antt`). Weiser, Program slicing, 1984, asks of a slice that
 //! it computes the same values of its variable; by `slices_end_alike` each ending run of the procedure has, from the
 //! same state, an ending run of the slice with the same final value.
+//!
+//! How near a line is comes from one breadth-first search against the arcs (Moore, The shortest path through a maze,
+//! 1959). A slice takes time linear in the lines, the arcs and the expressions.
 #![tactic(auto)]
 
 mod copying;

@@ -1,8 +1,5 @@
 -- The decisions of no way through a line begin with those of another.
-use Rattle.std.proofs.Common.{◌≡◌, refl, sym, ap, ◌∙◌, ℕ, zero, suc, ◌+◌, ◌<◌, ◌≤◌, Bool, true, false, Option, Some, None, List, [], ◌∷◌, ◌++◌, length, map, slice_get, ◌⊎◌, inl, inr, arith}
-use Rattle.std.proofs.lemmas.Option.{slice_get-map}
-use Rattle.std.specs.Option.{option_map}
-use Rattle.sym_terms.specs.Comparison.{Comparison}
+use Rattle.std.proofs.Common.{◌≡◌, refl, sym, ap, ◌∙◌, ℕ, zero, suc, ◌+◌, Bool, true, false, Some, List, [], ◌∷◌, ◌++◌, length, map, slice_get, ◌⊎◌, inl, inr, arith}
 use Rattle.test_graph.specs.Decision.{Decision, ask, done}
 use Rattle.test_graph.specs.Way.{Way, decided_true, decided_false, ways_of}
 

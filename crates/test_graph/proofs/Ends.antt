@@ -1,5 +1,5 @@
 -- Where the decisions of an expression lead from a state in range.
-use Rattle.std.proofs.Common.{◌≡◌, refl, sym, ap, ◌∙◌, ℤ, pos, neg_ℤ, ◌≤ℤ◌, Bool, true, false, not, ◌&&◌, cond, Option, Some, None, List, slice_get, arith}
+use Rattle.std.proofs.Common.{◌≡◌, refl, sym, ap, ◌∙◌, ℤ, pos, neg_ℤ, ◌≤ℤ◌, Bool, true, false, not, ◌&&◌, cond, Option, Some, None, List, arith}
 use Rattle.std.specs.Prelude.{int_le}
 use Rattle.std.proofs.lemmas.Int.{ints}
 use Rattle.std.specs.Int.{int_div_euclid, int_rem_euclid}
@@ -18,12 +18,12 @@ use Rattle.il_core.specs.declared.operator.BinOp.TheVariants.{Add, Sub, Mul, Div
 use Rattle.il_core.specs.declared.operator.Relation.{Relation}
 use Rattle.il_core.specs.declared.operator.Relation.TheVariants.{Ne}
 use Rattle.il_core.proofs.BoundsHold.{bounds-hold, whole-sides}
-use Rattle.sym_terms.specs.Tree.{Tree, number}
+use Rattle.sym_terms.specs.Tree.{number}
 use Rattle.sym_terms.specs.Value.{value_of}
-use Rattle.sym_terms.specs.Comparison.{Comparison, comparison_holds}
+use Rattle.sym_terms.specs.Comparison.{comparison_holds}
 use Rattle.test_graph.specs.Term.{term_of}
 use Rattle.test_graph.specs.Decision.{Decision, ask, done, holds_zero, not_zero, guarded, divided, decided_on}
-use Rattle.test_graph.specs.Way.{Way, decided_true, decided_false, way_taken, led_by, state_behind}
+use Rattle.test_graph.specs.Way.{decided_true, decided_false, way_taken, led_by, state_behind}
 use Rattle.test_graph.proofs.TermValue.{term_value}
 
 -- where decisions lead from a state

@@ -1,5 +1,5 @@
 -- What holds at the end of each way: a fact of all ends of a line's decisions.
-use Rattle.std.proofs.Common.{◌≡◌, refl, sym, ap, subst, ◌∙◌, ℕ, ◌+◌, ◌<◌, Bool, true, false, cond, Option, Some, None, List, [], ◌∷◌, ◌++◌, map, slice_get, ◌⊎◌, inl, inr, arith}
+use Rattle.std.proofs.Common.{◌≡◌, refl, ap, subst, ◌∙◌, ℕ, ◌+◌, Bool, true, false, cond, Option, Some, None, List, [], ◌∷◌, ◌++◌, map, slice_get, ◌⊎◌, inl, inr}
 use Rattle.std.specs.Prelude.{int_lt}
 use Rattle.il_core.specs.Expression as e
 use Rattle.il_core.specs.Expression.{Expression}
@@ -7,18 +7,15 @@ use Rattle.il_core.specs.Bounds.{Bounds, bounds_of}
 use Rattle.il_core.specs.Procedure.{Procedure, Instruction, pre, assign, if_true, otherwise, end_if, loop, end_loop, exit, exit_when, label, goto, skip, assert, return, end_procedure}
 use Rattle.il_core.specs.LineGraph.{IsIn, heads_of, heads_at, HasArc}
 use Rattle.il_core.specs.declared.line.Place.{Place}
-use Rattle.il_core.specs.declared.line.Next.{Next}
 use Rattle.il_core.specs.declared.line.Next.TheVariants.{At, Halted}
-use Rattle.il_core.specs.declared.line.Halt.{Halt}
 use Rattle.il_core.specs.declared.line.Halt.TheVariants.{End, Outside, FailedAssert, FailedPost, DivZero, Range}
 use Rattle.il_core.specs.declared.operator.BinOp.{BinOp}
 use Rattle.il_core.specs.declared.operator.BinOp.TheVariants.{Add, Sub, Mul, Div, Mod, Compare, And, Or}
 use Rattle.std.specs.Prelude.{pos}
-use Rattle.il_core.specs.declared.operator.Relation.TheVariants.{Ne, Le, Ge}
-use Rattle.sym_terms.specs.Tree.{Tree, number, variable}
-use Rattle.sym_terms.specs.Comparison.{Comparison}
+use Rattle.il_core.specs.declared.operator.Relation.TheVariants.{Le, Ge}
+use Rattle.sym_terms.specs.Tree.{Tree, number}
 use Rattle.test_graph.specs.Term.{term_of}
-use Rattle.test_graph.specs.Decision.{Change, Decision, ask, done, sets, halts, goes_to, holds_zero, not_zero, guarded, divided, decided_on, at_least, at_most, ranged, whole_given, bit_given, flag_given, given_to, decision_of, decision_there, decision_at}
+use Rattle.test_graph.specs.Decision.{Decision, ask, done, sets, halts, goes_to, holds_zero, guarded, divided, decided_on, at_least, at_most, ranged, whole_given, bit_given, flag_given, given_to, decision_of, decision_there, decision_at}
 use Rattle.test_graph.specs.Way.{Way, decided_true, decided_false, ways_of, line_paths}
 
 -- each end leads to one of these lines, or halts
@@ -130,7 +127,7 @@ leads p pc = there-leads p.places pc (slice_get p.lines pc)
 pub in-joined : (xs ys : List Way) (w : Way) → IsIn (xs ++ ys) w → IsIn xs w ⊎ IsIn ys w
 in-joined [] ys w i = inr i
 in-joined (x ∷ xs) ys w (inl same) = inl (inl same)
-in-joined (x ∷ xs) ys w (inr i) = elim (in-joined xs ys w i) [ | inl there ↦ inl (inr there) | inr there ↦ inr there ]
+in-joined (x ∷ xs) ys w (inr i) = elim (in-joined xs ys w i) [ inl there ↦ inl (inr there) | inr there ↦ inr there ]
 
 pub in-mapped : (f : Way → Way) (xs : List Way) (w : Way) → IsIn (map f xs) w → (v : Way) × IsIn xs v × (f v ≡ w)
 in-mapped f [] w i = absurd i

@@ -6,3 +6,7 @@ pub mod Steps
 pub mod Leaves
 pub mod Speaking
 pub mod Changes
+pub mod Standing
+pub mod StandingParts
+pub mod StandingLines
+pub mod StandingProcedure

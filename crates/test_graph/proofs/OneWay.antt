@@ -1,11 +1,10 @@
 -- In each state exactly one way through a line has only literals that hold, and no way begins as another.
-use Rattle.std.proofs.Common.{◌≡◌, refl, sym, ap, ◌∙◌, ℕ, ◌+◌, ◌-◌, ◌<◌, ◌≤◌, Bool, true, false, not, ◌&&◌, cond, Option, Some, None, List, [], ◌∷◌, ◌++◌, length, map, filter, slice_get, inl, inr, arith, length-append}
+use Rattle.std.proofs.Common.{◌≡◌, refl, ap, ◌∙◌, ◌<◌, Bool, true, false, not, ◌&&◌, cond, List, [], ◌∷◌, ◌++◌, length, map, filter, inl, inr, arith, length-append}
 use Rattle.std.proofs.lemmas.List.{length-map}
 use Rattle.std.proofs.lemmas.List.Elements.{filter-append}
-use Rattle.std.specs.Option.{option_map}
 use Rattle.il_core.specs.Evaluation.{State}
 use Rattle.il_core.specs.LineGraph.{IsIn}
-use Rattle.sym_terms.specs.Comparison.{Comparison, comparison_holds, denied}
+use Rattle.sym_terms.specs.Comparison.{comparison_holds}
 use Rattle.sym_terms.proofs.Comparisons.{denied_holds}
 use Rattle.test_graph.specs.Decision.{Decision, ask, done}
 use Rattle.test_graph.specs.Way.{Way, decided_true, decided_false, ways_of, all_hold, way_taken}

@@ -1,11 +1,11 @@
 -- The decisions of a checked line speak of the procedure's places alone.
-use Rattle.std.proofs.Common.{◌≡◌, refl, sym, ap, subst, ◌∙◌, ℕ, ◌+◌, ◌<◌, pos, Bool, true, false, cond, Option, Some, None, List, [], ◌∷◌, map, length, slice_get, inl, inr, arith}
+use Rattle.std.proofs.Common.{◌≡◌, refl, sym, subst, ℕ, ◌<◌, pos, Bool, true, false, cond, Option, Some, None, List, map, length, slice_get, inl, inr}
 use Rattle.std.specs.Prelude.{int_lt}
 use Rattle.std.proofs.lemmas.Option.{slice_get_within}
 use Rattle.il_core.specs.Expression as e
 use Rattle.il_core.specs.Expression.{Expression}
 use Rattle.il_core.specs.Bounds.{Bounds, bounds_of}
-use Rattle.il_core.specs.Kind.{HasFlag, IsWhole, IsCondition, WholeSides}
+use Rattle.il_core.specs.Kind.{HasFlag, IsWhole, IsCondition}
 use Rattle.il_core.specs.Procedure.{Procedure, Instruction, pre, assign, if_true, otherwise, end_if, loop, end_loop, exit, exit_when, label, goto, skip, assert, return, end_procedure}
 use Rattle.il_core.specs.LineGraph.{IsIn}
 use Rattle.il_core.specs.Checked.{IsChecked, FitsAt, Suits}
@@ -15,10 +15,10 @@ use Rattle.il_core.specs.declared.operator.BinOp.{BinOp}
 use Rattle.il_core.specs.declared.operator.BinOp.TheVariants.{Add, Sub, Mul, Div, Mod, Compare, And, Or}
 use Rattle.il_core.specs.declared.operator.Relation.TheVariants.{Ne, Le, Ge}
 use Rattle.il_core.proofs.BoundsHold.{whole-sides}
-use Rattle.sym_terms.specs.Tree.{Tree, number, variable}
+use Rattle.sym_terms.specs.Tree.{Tree, number}
 use Rattle.sym_terms.specs.Substitution.{HasPlacesBelow}
 use Rattle.test_graph.specs.Term.{term_of, operator_term, wrapped_term}
-use Rattle.test_graph.specs.Decision.{Change, Decision, ask, done, sets, halts, holds_zero, lies_within, fitted_term, guarded, divided, decided_on, at_least, at_most, ranged, whole_given, bit_given, flag_given, given_to, decision_of, decision_there, decision_at}
+use Rattle.test_graph.specs.Decision.{Decision, ask, done, sets, halts, holds_zero, lies_within, fitted_term, guarded, divided, decided_on, at_least, at_most, ranged, whole_given, bit_given, flag_given, given_to, decision_of, decision_there, decision_at}
 use Rattle.test_graph.specs.Way.{Way, decided_true, decided_false, ways_of, line_paths}
 use Rattle.test_graph.specs.Places.{DecidesPlacesBelow, SpeaksOfPlacesBelow}
 use Rattle.test_graph.proofs.Leaves.{in-joined, in-mapped}

@@ -1,5 +1,5 @@
 -- The way that a state in range takes through a line of a checked procedure is the step of the line machine.
-use Rattle.std.proofs.Common.{◌≡◌, ◌≢◌, refl, sym, ap, subst, ◌∙◌, ℕ, ◌+◌, ℤ, pos, ◌+ℤ◌, ◌-ℤ◌, ◌≤ℤ◌, Bool, true, false, ◌&&◌, cond, Option, Some, None, List, slice_get, slice_set, arith}
+use Rattle.std.proofs.Common.{◌≡◌, refl, sym, ap, ◌∙◌, ℕ, ◌+◌, ℤ, pos, ◌≤ℤ◌, Bool, true, false, ◌&&◌, cond, Option, Some, None, List, slice_get, slice_set, arith}
 use Rattle.std.specs.Prelude.{int_lt, int_le}
 use Rattle.std.specs.Option.{option_map}
 use Rattle.std.proofs.lemmas.Int.{ints}
@@ -8,21 +8,20 @@ use Rattle.il_core.specs.Expression.{Expression}
 use Rattle.il_core.specs.Evaluation.{State, value_at, whole, holds}
 use Rattle.il_core.specs.Bounds.{Bounds, bounds_of}
 use Rattle.il_core.specs.Kind.{IsCondition, HasFlag}
-use Rattle.il_core.specs.Machine.{Step, goes, stays, decided, bit, given, lies_in, wrapped, kept, stored, assigned_to, assigned, stepped, stepped_at, step}
+use Rattle.il_core.specs.Machine.{goes, stays, decided, bit, lies_in, wrapped, kept, stored, assigned_to, assigned, stepped, stepped_at, step}
 use Rattle.il_core.specs.Procedure.{Procedure, Instruction, pre, assign, if_true, otherwise, end_if, loop, end_loop, exit, exit_when, label, goto, skip, assert, return, end_procedure}
 use Rattle.il_core.specs.LineGraph.{IsIn}
 use Rattle.il_core.specs.Run.{IsInRange}
 use Rattle.il_core.specs.Checked.{IsChecked, FitsAt, HasRange, Suits}
 use Rattle.il_core.specs.declared.line.Place.{Place}
-use Rattle.il_core.specs.declared.line.Halt.TheVariants.{End, Outside, FailedAssert, FailedPost, DivZero, Range}
-use Rattle.il_core.specs.declared.operator.BinOp.{BinOp}
+use Rattle.il_core.specs.declared.line.Halt.TheVariants.{DivZero, Range}
 use Rattle.il_core.proofs.BoundsHold.{IsWithin, bounds-hold}
 use Rattle.il_core.proofs.Wrapped.{wrapped_own}
-use Rattle.sym_terms.specs.Tree.{Tree, number, variable}
+use Rattle.sym_terms.specs.Tree.{Tree, number}
 use Rattle.sym_terms.specs.Value.{value_of}
 use Rattle.test_graph.specs.Term.{term_of, wrapped_term}
 use Rattle.il_core.specs.declared.operator.Relation.TheVariants.{Le, Ge}
-use Rattle.test_graph.specs.Decision.{Decision, ask, sets, halts, goes_to, lies_within, fitted_term, at_least, at_most, ranged, whole_given, bit_given, flag_given, given_to, decision_of, decision_there, decision_at}
+use Rattle.test_graph.specs.Decision.{ask, sets, halts, lies_within, fitted_term, at_least, at_most, ranged, whole_given, bit_given, flag_given, given_to, decision_of, decision_there, decision_at}
 use Rattle.test_graph.specs.Way.{Way, line_paths, all_hold, way_taken, led_by}
 use Rattle.test_graph.proofs.TermValue.{term_value, wrapped_value}
 use Rattle.test_graph.proofs.Ends.{ended, led-taken, on_value, divided-ends, decided-ends}

@@ -1,5 +1,5 @@
 -- The term of an expression has the expression's value in each state in which the expression has one.
-use Rattle.std.proofs.Common.{◌≡◌, ◌≢◌, refl, sym, ap, ◌∙◌, ℤ, pos, negsuc, neg_ℤ, ◌+ℤ◌, ◌-ℤ◌, ◌*ℤ◌, ◌≤ℤ◌, Bool, true, false, cond, Option, Some, None, arith}
+use Rattle.std.proofs.Common.{◌≡◌, ◌≢◌, refl, ap, ◌∙◌, ℤ, pos, negsuc, neg_ℤ, ◌+ℤ◌, ◌-ℤ◌, ◌*ℤ◌, ◌≤ℤ◌, Bool, true, false, cond, Option, Some, None, arith}
 use Rattle.std.proofs.lemmas.Int.{ints}
 use Rattle.std.proofs.lemmas.Bool.Decides.{Decides-int_eq}
 use Rattle.std.specs.Int.{int_div_euclid, int_rem_euclid}
@@ -13,8 +13,8 @@ use Rattle.il_core.specs.declared.line.Place.{Place}
 use Rattle.il_core.specs.declared.operator.BinOp.{BinOp}
 use Rattle.il_core.specs.declared.operator.BinOp.TheVariants.{Add, Sub, Mul, Div, Mod, Compare, And, Or}
 use Rattle.il_core.proofs.BoundsHold.{unless_zero}
-use Rattle.sym_terms.specs.Tree.{Tree, number, variable, sum, product, quotient, remainder}
-use Rattle.sym_terms.specs.Value.{value_of, quotient_by, remainder_by}
+use Rattle.sym_terms.specs.Tree.{Tree}
+use Rattle.sym_terms.specs.Value.{value_of}
 use Rattle.test_graph.specs.Term.{term_of, operator_term, wrapped_term}
 
 minus_one : (a : ℤ) → negsuc 0 *ℤ a ≡ neg_ℤ a

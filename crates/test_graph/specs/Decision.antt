@@ -1,5 +1,5 @@
 -- The single decisions of a line, in the order of evaluation: each is a comparison that is true or false, and at the end of each way through them stands what is assigned and where the line leads.
-use Rattle.std.specs.Prelude.{ℕ, ◌+◌, ℤ, pos, Bool, true, false, ◌&&◌, Option, Some, None, List, if◌then◌else◌, int_lt, int_le, slice_get}
+use Rattle.std.specs.Prelude.{ℕ, ◌+◌, pos, Bool, ◌&&◌, Option, Some, None, List, if◌then◌else◌, int_lt, int_le, slice_get}
 use Rattle.il_core.specs.Expression as e
 use Rattle.il_core.specs.Expression.{Expression}
 use Rattle.il_core.specs.Bounds.{Bounds, bounds_of}

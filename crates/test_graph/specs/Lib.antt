@@ -5,3 +5,4 @@ pub mod Places
 pub mod Lowered
 pub mod Along
 pub mod Laws
+pub mod Standing

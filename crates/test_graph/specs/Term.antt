@@ -1,5 +1,5 @@
 -- The term of an expression for whole numbers: a difference is the sum with -1 times the right side, and a leading minus is -1 times its side.
-use Rattle.std.specs.Prelude.{ℤ, pos, negsuc, neg_ℤ, ◌+ℤ◌, ◌-ℤ◌}
+use Rattle.std.specs.Prelude.{pos, negsuc, neg_ℤ, ◌+ℤ◌, ◌-ℤ◌}
 use Rattle.il_core.specs.Expression as e
 use Rattle.il_core.specs.Expression.{Expression}
 use Rattle.il_core.specs.declared.line.Place.{Place}
