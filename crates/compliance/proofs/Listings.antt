@@ -1,5 +1,5 @@
 -- Each region has one list of its threats: its long paths in order, without those that do not stop badly or stop within the opening.
-use Rattle.std.proofs.Common.{◌≡◌, ◌⊎◌, inl, inr, refl, sym, ap, ◌∙◌, subst, ℕ, ◌<◌, ◌≤◌, Bool, true, false, List, [], ◌∷◌, ◌++◌, length, arith}
+use Rattle.std.proofs.Common.{◌≡◌, ◌⊎◌, inl, inr, refl, sym, ap, ◌∙◌, subst, ℕ, Bool, true, false, List, [], ◌∷◌, ◌++◌, length, arith}
 use Rattle.std.specs.Prelude.{◌↔◌}
 use Rattle.std.proofs.lemmas.Bool.{cases_lt}
 use Rattle.il_core.specs.LineGraph.{IsIn}
@@ -17,7 +17,7 @@ use Rattle.test_graph.specs.Laws.{WaysGoAlongArcs}
 use Rattle.region_paths.specs.Region.{is_head, leading_of}
 use Rattle.region_paths.specs.Chain.{IsLongChain, Onward, Leads, Passes}
 use Rattle.region_paths.specs.PlainRow.{PlainRow}
-use Rattle.region_paths.specs.Listing.{RegionPath, IsLongPath, Ascend, is_before, AreLongPaths}
+use Rattle.region_paths.specs.Listing.{RegionPath, IsLongPath, Ascend, AreLongPaths}
 use Rattle.region_paths.specs.Laws.{BeginsRegion}
 use Rattle.compliance.specs.Opening.{opening, StayWithin}
 use Rattle.compliance.specs.Threat.{stops_badly, IsThreat, AreThreats}
@@ -47,7 +47,7 @@ one_lead p head (a ∷ lines) [] ws g h k l e = absurd k
 one_lead p head (a ∷ lines) (v ∷ vs) [] g h k l e = absurd l
 one_lead p head (a ∷ lines) (v ∷ vs) (w ∷ ws) g h k l e =
     both_end v w vs ws s.way (by_next v.next k.1 (subst (λ (x : Way). Passes x.next ws (stop.Halted h) (Leads p head lines ws (stop.Halted h))) (sym s.way) l.1)
-      (λ x y. one_lead p head lines vs ws g h x y s.left))
+    (λ x y. one_lead p head lines vs ws g h x y s.left))
   where
     s : IsSameStep v w (path_of vs) (path_of ws)
     s = same_step p a v w (path_of vs) (path_of ws) k.0 l.0 e
@@ -97,8 +97,8 @@ threat_or_not p loops pc r arcs b k = by_stop r.stop refl
     by_length h e bad = elim (cases_lt (length (opening loops pc)) (length k.ways)) [
       | inl more ↦ inl (record { path = k; bad = bad; behind = λ w. let few = within_few p (opening loops pc) k.ways w in omega (arith, few, more) })
       | inr few ↦ inr (λ t.
-        let same = one_chain p loops pc k.ways t.path.ways h h (chain h e k) (chain h e t.path) (sym (path_is k) ∙ path_is t.path) in
-        t.behind (subst (StayWithin p (opening loops pc)) same (short_within p loops pc k.ways h arcs b.regions (chain h e k) few)))
+          let same = one_chain p loops pc k.ways t.path.ways h h (chain h e k) (chain h e t.path) (sym (path_is k) ∙ path_is t.path) in
+          t.behind (subst (StayWithin p (opening loops pc)) same (short_within p loops pc k.ways h arcs b.regions (chain h e k) few)))
     ]
 
     by_bad : (h : Halt) (t : Bool) → r.stop ≡ stop.Halted h → stops_badly r.stop ≡ t → IsThreat p loops pc r ⊎ (IsThreat p loops pc r → ⊥)
