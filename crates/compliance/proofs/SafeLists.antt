@@ -7,7 +7,7 @@ use Rattle.control_flow.specs.declared.control.LoopInfo.{LoopInfo}
 use Rattle.region_paths.specs.Region.{first_lines}
 use Rattle.region_paths.specs.Listing.{RegionPath}
 use Rattle.region_paths.specs.Size.{IsPast, past_of}
-use Rattle.region_paths.specs.declared.size.Limit.{Limit}
+use Rattle.region_paths.specs.declared.limit.Limit.{Limit}
 use Rattle.region_paths.specs.Laws.{OneListing}
 use Rattle.path_inputs.specs.Least.{IsPlainlyRefuted}
 use Rattle.semantic_tables.specs.Row.{forms_of}

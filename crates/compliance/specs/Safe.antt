@@ -9,7 +9,7 @@ use Rattle.sym_simplify.specs.Literal.{literal_form_of}
 use Rattle.region_paths.specs.Region.{first_lines}
 use Rattle.region_paths.specs.Listing.{RegionPath}
 use Rattle.region_paths.specs.Size.{IsPast}
-use Rattle.region_paths.specs.declared.size.Limit.{Limit}
+use Rattle.region_paths.specs.declared.limit.Limit.{Limit}
 use Rattle.semantic_tables.specs.Row.{forms_of}
 use Rattle.compliance.specs.Threat.{AreThreats}
 use Rattle.compliance.specs.Verdict.{HasVerdict}

@@ -12,7 +12,7 @@ use Rattle.region_paths.specs.Listing.{RegionPath, IsShortPath, IsLongPath}
 use Rattle.region_paths.specs.Size.{IsPast, past_of}
 use Rattle.region_paths.specs.Stepping.{StepsTo, LongStepsTo, TakesOne}
 use Rattle.region_paths.specs.Laws.{BeginsRegion, InputsTakeOnePath, OneListing}
-use Rattle.region_paths.specs.declared.size.Limit.{Limit}
+use Rattle.region_paths.specs.declared.limit.Limit.{Limit}
 use Rattle.region_paths.proofs.Orders.{one_listing}
 use Rattle.semantic_tables.specs.Row.{row_of, normal_row, forms_of}
 use Rattle.semantic_tables.specs.Table.{IsOpenPath, AreRowsOf, IsTableOf, IsTable, IsLongTable}

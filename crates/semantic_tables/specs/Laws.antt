@@ -2,7 +2,7 @@
 use Rattle.std.specs.Prelude.{◌≡◌, ℕ, Result, Ok, Err, List, map}
 use Rattle.il_core.specs.Procedure.{Procedure}
 use Rattle.control_flow.specs.declared.control.LoopInfo.{LoopInfo}
-use Rattle.region_paths.specs.declared.size.Limit.{Limit}
+use Rattle.region_paths.specs.declared.limit.Limit.{Limit}
 use Rattle.region_paths.specs.Laws.{BeginsRegion}
 use Rattle.semantic_tables.specs.Row.{NormalRow, row_of}
 use Rattle.semantic_tables.specs.Table.{IsTable, IsLongTable}
