@@ -8,7 +8,7 @@ ghost use Rattle.line_machine.specs.Fits.{IsSmall, PartsFit};
 use il_core::{BinOp, Expr, Relation};
 
 /// The value of place `place`, as `i128`.
-fn value_in(vals: &[i64], place: usize) -> i128
+pub fn value_in(vals: &[i64], place: usize) -> i128
     ensures { result ≡ value_at vals.now place }
 {
     match vals.get(place) {
@@ -18,7 +18,7 @@ fn value_in(vals: &[i64], place: usize) -> i128
 }
 
 /// What an operator makes of two numbers; `None` is division by zero.
-fn calculate(op: BinOp, left: i128, right: i128) -> Option<i128>
+pub fn calculate(op: BinOp, left: i128, right: i128) -> Option<i128>
     requires dividend { unsigned_abs left ≤ 2 ^ 126 }
     requires outcome { IsSmall (calculated op left right) }
     ensures { result ≡ calculated op left right }
@@ -46,7 +46,7 @@ fn calculate(op: BinOp, left: i128, right: i128) -> Option<i128>
 }
 
 /// The opposite number.
-fn negated(value: i128) -> i128
+pub fn negated(value: i128) -> i128
     requires { unsigned_abs value ≤ 2 ^ 126 }
     ensures { result ≡ neg_ℤ value }
 {
@@ -78,7 +78,7 @@ pub fn whole_value(vals: &[i64], expr: &Expr) -> Option<i128>
 }
 
 /// Whether a relation holds between two numbers.
-fn is_related(relation: Relation, left: i128, right: i128) -> bool
+pub fn is_related(relation: Relation, left: i128, right: i128) -> bool
     ensures { result ≡ compares relation left right }
 {
     match relation {

@@ -12,7 +12,7 @@ mod running;
 mod stepping;
 
 pub use bounding::{StaticBounds, static_bounds};
-pub use evaluation::{truth_value, whole_value};
+pub use evaluation::{calculate, is_related, negated, truth_value, value_in, whole_value};
 pub use laws::{bounds_hold, division_is_euclidean, steps_stay_inside};
 pub use running::run_to_cut;
-pub use stepping::step;
+pub use stepping::{decide, step, store};

@@ -16,7 +16,7 @@ use crate::evaluation::{truth_value, whole_value};
 use il_core::{CheckedProc, Expr, Halt, Line, Next, Place};
 
 /// Where a condition leads: by its truth, or to a division by zero.
-fn decide(truth: Option<bool>, fault: Next, met: Next, unmet: Next) -> Next
+pub fn decide(truth: Option<bool>, fault: Next, met: Next, unmet: Next) -> Next
     ensures { (s : _) → record { next = result; state = s } ≡ decided truth (record { next = fault; state = s }) (record { next = met; state = s }) (record { next = unmet; state = s }) }
 {
     match truth {
@@ -122,7 +122,7 @@ fn kept_value(place: &Place, value: i128) -> Option<i64>
 }
 
 /// Gives place `index` what it keeps of a value, where it keeps something.
-fn store(vals: &mut [i64], pc: usize, index: usize, place: &Place, value: i128) -> Next
+pub fn store(vals: &mut [i64], pc: usize, index: usize, place: &Place, value: i128) -> Next
     requires line { pc < 1000 }
     requires there { index < length vals.old }
     requires ordered { place.now.least ≤ℤ place.now.greatest }

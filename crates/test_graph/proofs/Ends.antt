@@ -51,7 +51,7 @@ on-mapped None rest fault = refl
 on-mapped (Some v) rest fault = refl
 
 -- a number within bounds that do not hold 0 is not 0
-outside-zero : (low y high : ℤ) → low ≤ℤ y → y ≤ℤ high → (int_le low (pos 0) && int_le (pos 0) high) ≡ false → int_eq y (pos 0) ≡ false
+pub outside-zero : (low y high : ℤ) → low ≤ℤ y → y ≤ℤ high → (int_le low (pos 0) && int_le (pos 0) high) ≡ false → int_eq y (pos 0) ≡ false
 outside-zero low y high p q h = by_low (int_le low (pos 0)) refl h
   where
     by_low : (b : Bool) → int_le low (pos 0) ≡ b → (b && int_le (pos 0) high) ≡ false → int_eq y (pos 0) ≡ false

@@ -10,3 +10,7 @@ pub mod Standing
 pub mod StandingParts
 pub mod StandingLines
 pub mod StandingProcedure
+pub mod FollowedPath
+pub mod PathEnds
+pub mod FollowedSteps
+pub mod StepsAlong

@@ -4,7 +4,7 @@ use Rattle.il_core.specs.Evaluation.{State}
 use Rattle.il_core.specs.Machine.{step}
 use Rattle.il_core.specs.Procedure.{Procedure}
 use Rattle.test_graph.specs.Way.{decisions}
-use Rattle.test_graph.specs.declared.along.Taken.{Taken}
+use Rattle.test_graph.specs.declared.taken.Taken.{Taken}
 
 abbrev pub BeginsWith : List Bool → List Bool → Type 0
 BeginsWith path front = (rest : List Bool) × (path ≡ front ++ rest)

@@ -6,3 +6,4 @@ pub mod Lowered
 pub mod Along
 pub mod Laws
 pub mod Standing
+pub mod Followed

@@ -1,5 +1,5 @@
 //! The nodes of an assignment.
-ghost use Rattle.std.specs.Prelude.{◌≡◌, ℕ, ◌<◌, ◌+◌, pos, List, length, slice_get, Some, None, IfOk};
+ghost use Rattle.std.specs.Prelude.{◌≡◌, ℕ, ◌<◌, ◌+◌, pos, List, length, slice_get, Some, None, IfOk, OnSome};
 ghost use Rattle.std.specs.Option.{option_copied};
 ghost use Rattle.il_core.specs.Expression.{Expression, expression_of};
 ghost use Rattle.il_core.specs.Expression as expression;
@@ -201,8 +201,9 @@ fn lower_flag(
 }
 
 /// The place of this number.
-fn place_at(places: &[Place], index: usize) -> Option<&Place>
-    ensures { option_copied result ≡ slice_get places.now index }
+pub(crate) fn place_at(places: &[Place], index: usize) -> Option<&Place>
+    ensures value { option_copied result ≡ slice_get places.now index }
+    ensures within { OnSome result (index < length places.now) }
 {
     places.get(index)
 }

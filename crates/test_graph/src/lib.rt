@@ -11,15 +11,18 @@
 
 mod along;
 mod assigning;
+mod following;
 mod graph;
 mod laws;
 mod lines;
 mod lowering;
+mod taken;
 mod term;
 
-pub use along::Taken;
+pub use along::step_along;
 pub use graph::{TestGraph, TestNode};
 pub use laws::{
     one_way_holds, some_way, ways_are_steps, ways_differ, ways_go_along_arcs, ways_speak_of_places,
 };
 pub use lines::lower;
+pub use taken::Taken;

@@ -152,7 +152,7 @@ fn set_first(nodes: &mut Vec<TestNode>, pc: usize, first: usize)
 }
 
 /// The line of this number.
-fn line_at(lines: &[Line], pc: usize) -> &Line
+pub(crate) fn line_at(lines: &[Line], pc: usize) -> &Line
     requires { pc < length lines.now }
     ensures { slice_get lines.now pc ≡ Some result.now }
 {

@@ -96,7 +96,7 @@ pub(crate) fn put_test(
 }
 
 /// Whether 0 lies within the bounds.
-fn holds_zero(bounds: StaticBounds) -> bool
+pub(crate) fn holds_zero(bounds: StaticBounds) -> bool
     ensures { result ≡ holds_zero (bounds_in bounds) }
 {
     bounds.low <= 0 && 0 <= bounds.high
