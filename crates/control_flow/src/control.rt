@@ -1,7 +1,7 @@
 use il_core::List;
 
 /// A loop of a procedure.
-#[derive(Debug, Drop)]
+#[derive(Drop)]
 pub struct LoopInfo {
     /// The loop head: the line through which every way into the loop leads.
     pub head: usize,
@@ -12,7 +12,7 @@ pub struct LoopInfo {
 }
 
 /// A cycle that can be entered first at two lines, with a path to each.
-#[derive(Debug, Drop)]
+#[derive(Drop)]
 pub struct Entries {
     /// The lines of the cycle, the least of them first; an arc goes from each to the next and from the last to the first.
     pub cycle: List<usize>,
@@ -23,7 +23,7 @@ pub struct Entries {
 }
 
 /// Whether each cycle has one entry.
-#[derive(Debug, Drop)]
+#[derive(Drop)]
 pub enum Shape {
     /// No cycle of reachable lines can be entered first at two lines.
     Reducible,
@@ -32,7 +32,7 @@ pub enum Shape {
 }
 
 /// The control structure of a procedure.
-#[derive(Debug, Drop)]
+#[derive(Drop)]
 pub struct Control {
     /// The lines that no path from line 0 reaches, ascending.
     pub unreachable: List<usize>,

@@ -15,6 +15,3 @@ mod splitting;
 pub use analysis::control_of;
 pub use control::{Control, Entries, LoopInfo, Shape};
 pub use laws::reducible_cycles_hold_a_head;
-
-#[cfg(test)]
-mod tests;

@@ -5,4 +5,3 @@ pub mod Collected
 pub mod Carrying
 pub mod Fitting
 pub mod Telling
-pub mod Small

@@ -17,6 +17,3 @@ mod row;
 
 pub use report::data_use;
 pub use row::UseRow;
-
-#[cfg(test)]
-mod tests;

@@ -9,7 +9,7 @@ use regular_algebra::BitRelation;
 pub const POINTS: usize = 7;
 
 /// What a variable's events so far may be.
-#[derive(Clone, Copy, Debug, PartialEq, Eq)]
+#[derive(Clone, Copy, PartialEq, Eq)]
 pub enum Point {
     /// No write yet.
     Fresh,
@@ -46,14 +46,14 @@ impl Point {
 }
 
 /// A pair of points, from the first of which events lead to the second.
-#[derive(Clone, Copy, Debug, PartialEq, Eq)]
+#[derive(Clone, Copy, PartialEq, Eq)]
 pub struct Move {
     pub from: Point,
     pub to: Point,
 }
 
 /// What a line does to a variable.
-#[derive(Clone, Copy, Debug, PartialEq, Eq)]
+#[derive(Clone, Copy, PartialEq, Eq)]
 pub enum Effect {
     Nothing,
     Read,

@@ -12,7 +12,7 @@ use il_core::{List, NoMemory};
 use std::alloc::Global;
 
 /// What `solve` answers.
-#[derive(Debug, Drop)]
+#[derive(Drop)]
 pub enum Solved {
     /// The solution that is nowhere above another one, a value for each unknown.
     Least(List<i64>),
@@ -21,7 +21,7 @@ pub enum Solved {
 }
 
 /// What `solve_splits` answers.
-#[derive(Debug, Drop)]
+#[derive(Drop)]
 pub enum SplitSolved {
     /// The least solution of the first choice of sides that has one.
     Least(List<i64>),

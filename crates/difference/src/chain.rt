@@ -7,7 +7,7 @@ use std::alloc::Global;
 
 /// A step of a chain: the unknown that the edge enters, and the value that the chain proves for it up to here.
 /// The value is read by proofs alone.
-#[derive(Debug, Clone, Copy)]
+#[derive(Clone, Copy)]
 pub struct Step {
     pub node: usize,
     pub value: i64,

@@ -14,6 +14,3 @@ mod solving;
 
 pub use answers::{Solved, SplitSolved, refute, solve, solve_splits};
 pub use constraint::{Constraint, Edge, Range64, Split};
-
-#[cfg(test)]
-mod tests;

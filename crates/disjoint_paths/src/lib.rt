@@ -14,6 +14,3 @@ mod widening;
 
 pub use pair::Pair;
 pub use paths::{pair_from, two_paths};
-
-#[cfg(test)]
-mod tests;

@@ -1,7 +1,7 @@
 use il_core::List;
 
 /// Two paths that share the line from which they start alone.
-#[derive(Debug, Drop)]
+#[derive(Drop)]
 pub struct Pair {
     /// The lines of the first path, from the shared line on.
     pub left: List<usize>,

@@ -4,4 +4,3 @@ pub mod LineArcs
 pub mod Spreading
 pub mod Formed
 pub mod Tracks
-pub mod Literal

@@ -40,7 +40,7 @@ pub struct Arc {
 }
 
 /// The graph of a procedure.
-#[derive(Debug, Drop)]
+#[derive(Drop)]
 pub struct FlowGraph {
     /// One node for each line, in line order.
     pub nodes: List<Node>,

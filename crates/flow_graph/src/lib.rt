@@ -20,6 +20,3 @@ pub use laws::{steps_go_along_arcs, walks_are_paths};
 pub use paths::paths_from;
 pub use rows::{predecessors, successors};
 pub use searching::{reachable, search};
-
-#[cfg(test)]
-mod tests;

@@ -7,7 +7,7 @@ use il_core::{Form, NoMemory, Stmt};
 use std::alloc::Global;
 
 /// What opened a block.
-#[derive(Clone, Copy, Debug, PartialEq, Eq)]
+#[derive(Clone, Copy, PartialEq, Eq)]
 pub enum Kind {
     /// PROC.
     Procedure,
@@ -20,7 +20,7 @@ pub enum Kind {
 }
 
 /// What closes a block.
-#[derive(Clone, Copy, Debug, PartialEq, Eq)]
+#[derive(Clone, Copy, PartialEq, Eq)]
 pub enum Closer {
     /// ELSE.
     ByElse,
@@ -33,7 +33,7 @@ pub enum Closer {
 }
 
 /// A block that is open.
-#[derive(Clone, Copy, Debug, PartialEq, Eq)]
+#[derive(Clone, Copy, PartialEq, Eq)]
 pub(crate) struct OpenBlock {
     /// The number of the statement that opened it.
     pub(crate) at: usize,

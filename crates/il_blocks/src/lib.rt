@@ -15,6 +15,3 @@ mod block_mate;
 pub use block::{Closer, Kind};
 pub use block_fault::{check_blocks, one_links, one_match};
 pub use block_link::match_blocks;
-
-#[cfg(test)]
-mod tests;

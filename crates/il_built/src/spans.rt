@@ -7,7 +7,7 @@ use il_core::Stmt;
 use il_types::{Counts, counts_before};
 
 /// The statements of the procedure numbered `owner`: those numbered from `from` on and before `to`.
-#[derive(Clone, Copy, Debug)]
+#[derive(Clone, Copy)]
 pub(crate) struct Span {
     pub owner: usize,
     pub from: usize,

@@ -6,9 +6,11 @@ pub mod Procedure
 pub mod Evaluation
 pub mod Machine
 pub mod Run
+pub mod Input
 pub mod Bounds
 pub mod Kind
 pub mod Checked
+pub mod Places
 pub mod Text
 pub mod LineGraph
 pub mod formers

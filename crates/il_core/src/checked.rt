@@ -66,7 +66,7 @@ impl CheckedProc {
 }
 
 /// A checked text: its title, its profile (2 where a range wraps, else 1) and 1 to 64 procedures.
-#[derive(Debug, Drop)]
+#[derive(Drop)]
 pub struct CheckedText {
     title: Name,
     profile: u8,

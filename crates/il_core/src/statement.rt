@@ -14,7 +14,7 @@ pub enum Mode {
 }
 
 /// An expression as it is written, without its parentheses.
-#[derive(Debug, Drop)]
+#[derive(Drop)]
 pub enum RawExpr {
     /// A number.
     Num(u64),
@@ -33,7 +33,7 @@ pub enum RawExpr {
 }
 
 /// An end of a range.
-#[derive(Clone, Copy, Debug, PartialEq, Eq)]
+#[derive(Clone, Copy, PartialEq, Eq)]
 pub enum Bound {
     /// A number, with its sign.
     Number(i64),
@@ -42,7 +42,7 @@ pub enum Bound {
 }
 
 /// The type in the declaration of a variable.
-#[derive(Clone, Copy, Debug, PartialEq, Eq)]
+#[derive(Clone, Copy, PartialEq, Eq)]
 pub enum TypeUse {
     /// `BOOL`.
     Bool,
@@ -55,7 +55,7 @@ pub enum TypeUse {
 }
 
 /// A statement and the place of its first byte in the text, counted from 0.
-#[derive(Debug, Drop)]
+#[derive(Drop)]
 pub struct Stmt {
     /// The place of the statement's first byte.
     pub place: usize,
@@ -64,7 +64,7 @@ pub struct Stmt {
 }
 
 /// The forms of a statement.
-#[derive(Debug, Drop)]
+#[derive(Drop)]
 pub enum Form {
     /// `TITLE name`
     Title(Name),
@@ -117,7 +117,7 @@ pub enum Form {
 }
 
 /// The line of a statement within its procedure, counted from 0 at PRE.
-#[derive(Clone, Copy, Debug, PartialEq, Eq)]
+#[derive(Clone, Copy, PartialEq, Eq)]
 pub enum Link {
     /// The statement is no line.
     NoLine,

@@ -1,7 +1,7 @@
 use crate::Name;
 
 /// The keywords of the text language.
-#[derive(Clone, Copy, Debug, PartialEq, Eq)]
+#[derive(Clone, Copy, PartialEq, Eq)]
 pub enum Keyword {
     KwTitle,
     KwConst,
@@ -41,7 +41,7 @@ pub enum Keyword {
 }
 
 /// The symbols of the text language.
-#[derive(Clone, Copy, Debug, PartialEq, Eq)]
+#[derive(Clone, Copy, PartialEq, Eq)]
 pub enum Symbol {
     Becomes,
     Colon,
@@ -62,7 +62,7 @@ pub enum Symbol {
 }
 
 /// What a token is.
-#[derive(Clone, Copy, Debug, PartialEq, Eq)]
+#[derive(Clone, Copy, PartialEq, Eq)]
 pub enum TokenKind {
     /// A name that is spelt as a keyword.
     Key(Keyword),
@@ -75,7 +75,7 @@ pub enum TokenKind {
 }
 
 /// A token with its span in the text: the bytes from `first` up to but without `after`, counted from 0.
-#[derive(Clone, Copy, Debug, PartialEq, Eq)]
+#[derive(Clone, Copy, PartialEq, Eq)]
 pub struct Token {
     /// What the token is.
     pub kind: TokenKind,

@@ -13,8 +13,6 @@ mod numbered;
 mod standard;
 mod sure_sink;
 mod sure_source;
-#[cfg(test)]
-mod tests;
 mod whole;
 
 pub use device::{Failed, Sink, Source};

@@ -10,7 +10,7 @@ use std::marker::Model;
 
 /// A sink in memory that takes its bytes in pieces, and fails at the calls whose numbers it was given and where it is
 /// full. It takes no memory after it is made.
-#[derive(Debug, Drop)]
+#[derive(Drop)]
 pub struct MemSink {
     bytes: Vec<u8>,
     settled: usize,

@@ -10,7 +10,7 @@ use std::io::{Read, Write};
 
 /// A source over std's reader, with a count of its failures that stops at a u64's last value. Its bytes are not told:
 /// nothing can say what the world gives.
-#[derive(Debug, Drop)]
+#[derive(Drop)]
 pub struct StdSource<R> {
     inner: R,
     faults: u64,
@@ -52,7 +52,7 @@ impl<R: Read> Source for StdSource<R> {
 
 /// A sink over std's writer, with a count of its failures that stops at a u64's last value. Its bytes are not told:
 /// nothing can say what the world takes.
-#[derive(Debug, Drop)]
+#[derive(Drop)]
 pub struct StdSink<W> {
     inner: W,
     faults: u64,

@@ -12,8 +12,6 @@ mod limit;
 mod number;
 mod step;
 mod symbol;
-#[cfg(test)]
-mod tests;
 mod word;
 
 pub use lexing::{lex, one_reading};

@@ -8,7 +8,7 @@ use crate::word::word_step;
 use il_core::TokenKind;
 
 /// What stands at the front of a text: its number of bytes, and which token it is; `None` for a blank.
-#[derive(Clone, Copy, Debug)]
+#[derive(Clone, Copy)]
 pub(crate) struct Step {
     pub(crate) len: usize,
     pub(crate) kind: Option<TokenKind>,

@@ -5,7 +5,7 @@ ghost use Rattle.il_syntax.specs.Order.{part_of, next, IsInOrder, BreaksAt};
 use il_core::{Form, Stmt};
 
 /// The part of a text that a statement is.
-#[derive(Clone, Copy, Debug, PartialEq, Eq)]
+#[derive(Clone, Copy, PartialEq, Eq)]
 pub enum Part {
     /// TITLE.
     Title,
@@ -28,7 +28,7 @@ pub enum Part {
 }
 
 /// What a text has come to.
-#[derive(Clone, Copy, Debug, PartialEq, Eq)]
+#[derive(Clone, Copy, PartialEq, Eq)]
 pub enum Stage {
     /// Its beginning: TITLE comes next.
     Start,

@@ -23,6 +23,3 @@ pub fn parse(alloc: Global, text_len: usize, tokens: &[Token]) -> Result<List<St
 pub fn one_parse()
     ensures { OneParse }
 {}
-
-#[cfg(test)]
-mod tests;

@@ -10,7 +10,7 @@ use std::marker::Model;
 const BOUND_LIMIT: u128 = 1 << 126;
 
 /// Static bounds within the limit.
-#[derive(Clone, Copy, Debug)]
+#[derive(Clone, Copy)]
 pub(crate) struct Bounds {
     low: i128,
     high: i128,

@@ -9,7 +9,7 @@ use il_core::{Form, Many, Mode, NoMemory, Stmt};
 use std::alloc::Global;
 
 /// What the statements in front of a statement come to.
-#[derive(Clone, Copy, Debug, PartialEq, Eq)]
+#[derive(Clone, Copy, PartialEq, Eq)]
 pub struct Counts {
     /// The statements.
     pub statements: usize,

@@ -1,5 +1,5 @@
 /// The kind of a value.
-#[derive(Clone, Copy, Debug, PartialEq, Eq)]
+#[derive(Clone, Copy, PartialEq, Eq)]
 pub enum Kind {
     /// A whole number.
     Whole,

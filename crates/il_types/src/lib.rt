@@ -23,6 +23,3 @@ pub use modes::Part;
 pub use names::{Names, declaration, declare_all};
 pub use range::{Range, counts_before, is_flag, range_of_use};
 pub use rules::{Found, Rule};
-
-#[cfg(test)]
-mod tests;

@@ -8,7 +8,7 @@ use crate::names::{Names, declaration};
 use il_core::{Form, Mode, Name, RawExpr, Stmt};
 
 /// Where an expression stands.
-#[derive(Clone, Copy, Debug, PartialEq, Eq)]
+#[derive(Clone, Copy, PartialEq, Eq)]
 pub enum Part {
     /// In PRE.
     Precondition,

@@ -11,7 +11,7 @@ use std::alloc::Global;
 use std::marker::Model;
 
 /// The declarations of a text in their order: under scope and name the number of the statement, and which of its names it is.
-#[derive(Debug, Drop)]
+#[derive(Drop)]
 pub struct Names {
     table: IndexMap<(usize, Name), (usize, usize)>,
 }

@@ -11,7 +11,7 @@ use crate::typing::{bound_value, is_truth, kind_of_use};
 use il_core::{Bound, Form, Stmt, TypeUse};
 
 /// The least and the greatest value of a type, and whether an assignment wraps into them.
-#[derive(Clone, Copy, Debug, PartialEq, Eq)]
+#[derive(Clone, Copy, PartialEq, Eq)]
 pub struct Range {
     /// The least value.
     pub least: i64,

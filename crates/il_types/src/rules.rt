@@ -15,7 +15,7 @@ use crate::unknown::unknown;
 use il_core::{Code, Form, Name, Refusal, Stmt};
 
 /// What a statement breaks: the code, with the name that is told.
-#[derive(Clone, Copy, Debug, PartialEq, Eq)]
+#[derive(Clone, Copy, PartialEq, Eq)]
 pub struct Found {
     /// Why.
     pub code: Code,
@@ -24,7 +24,7 @@ pub struct Found {
 }
 
 /// The rules for statements whose names are declared once.
-#[derive(Clone, Copy, Debug, PartialEq, Eq)]
+#[derive(Clone, Copy, PartialEq, Eq)]
 pub enum Rule {
     /// Each name that is used is declared.
     Known,

@@ -12,4 +12,3 @@ pub mod Leasts
 pub mod Listing
 pub mod Rows
 pub mod PairsOfPaths
-pub mod Literals

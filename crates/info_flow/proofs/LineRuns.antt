@@ -23,12 +23,12 @@ use Rattle.info_flow.proofs.Stepping.{Alike, stepped_value, stepped_alike, stepp
 use Rattle.info_flow.proofs.Outside.{no_pair_outside, none_leaves}
 
 -- an option holds a number or not
-is_some_of_or_not : (o : Option ℕ) (x : ℕ) → (o ≡ Some x) ⊎ (o ≡ Some x → ⊥)
+pub is_some_of_or_not : (o : Option ℕ) (x : ℕ) → (o ≡ Some x) ⊎ (o ≡ Some x → ⊥)
 is_some_of_or_not None x = inr (λ e. cc)
 is_some_of_or_not (Some y) x = elim (eqb_tells y x) [ inl same ↦ inl (ap Some same.1) | inr other ↦ inr (λ e. other.1 (same_Some y x e)) ]
 
 -- the step of a line is that of its instruction
-step_is : (p : Procedure) (a : ℕ) (s : State) (i : Instruction) → slice_get p.lines a ≡ Some i → step p a s ≡ stepped p.places a s i
+pub step_is : (p : Procedure) (a : ℕ) (s : State) (i : Instruction) → slice_get p.lines a ≡ Some i → step p a s ≡ stepped p.places a s i
 unfolding step
 step_is p a s i e = ap (stepped_at p.places a s) e
 
@@ -40,12 +40,12 @@ abbrev pub Finishes : Procedure → ℕ → State → Type 0
 Finishes p a s = (a < length p.lines) × IsInRange p.places s × (step p a s ≡ stays End s)
 
 -- a line of a procedure: its instruction and its node
-record LineAt (p : Procedure) (a : ℕ) : Type 0 where
+pub record LineAt (p : Procedure) (a : ℕ) : Type 0 where
   pub instruction : Instruction
   pub there : slice_get p.lines a ≡ Some instruction
   pub node : slice_get (graph_of p).nodes a ≡ Some (node_of (returned_from 0 p.places) instruction)
 
-line_at : (p : Procedure) (a : ℕ) → a < length p.lines → LineAt p a
+pub line_at : (p : Procedure) (a : ℕ) → a < length p.lines → LineAt p a
 line_at p a l = elim (slice_get_cases p.lines a).1 [
   | inl t ↦ record {
     instruction = t.0;
@@ -59,17 +59,17 @@ line_at p a l = elim (slice_get_cases p.lines a).1 [
 assigns_from : (p : Procedure) (a x : ℕ) (l : LineAt p a) → written_by l.instruction ≡ Some x → Assigns (graph_of p).nodes a x
 assigns_from p a x l h = (node_of (returned_from 0 p.places) l.instruction, l.node, h)
 
-assigns_means : (p : Procedure) (a x : ℕ) (l : LineAt p a) → Assigns (graph_of p).nodes a x → written_by l.instruction ≡ Some x
+pub assigns_means : (p : Procedure) (a x : ℕ) (l : LineAt p a) → Assigns (graph_of p).nodes a x → written_by l.instruction ≡ Some x
 assigns_means p a x l w =
     let same : node_of (returned_from 0 p.places) l.instruction ≡ w.0 = same_Some _ w.0 (sym l.node ∙ w.1) in
     ap (λ (n : Node). n.writes) same ∙ w.2
 
 module _ (p : Procedure) (checked : IsChecked p) (v : ℕ) (relevant : ℕ → Bool) (needs : ℕ → ℕ → Bool) (closed : IsClosed (graph_of p) v relevant needs) where
-  along : (a b : ℕ) (s t : State) → GoesOn p a s b t → Joins (graph_of p).arcs a b
+  pub along : (a b : ℕ) (s t : State) → GoesOn p a s b t → Joins (graph_of p).arcs a b
   along a b s t g = Joins-from_HasArc p a b ((step-kept p a s checked g.1).along b (ap (λ (x : Step). x.next) g.2))
 
   -- a step changes no place but the one that the line assigns
-  value_kept : (a b : ℕ) (s t : State) → GoesOn p a s b t → (l : LineAt p a) (x : ℕ) → (written_by l.instruction ≡ Some x → ⊥) → value_at t x ≡ value_at s x
+  pub value_kept : (a b : ℕ) (s t : State) → GoesOn p a s b t → (l : LineAt p a) (x : ℕ) → (written_by l.instruction ≡ Some x → ⊥) → value_at t x ≡ value_at s x
   value_kept a b s t g l x n =
       let e : (stepped p.places a s l.instruction).state ≡ t = ap (λ (y : Step). y.state) (sym (step_is p a s l.instruction l.there) ∙ g.2) in
       subst (λ (u : State). value_at u x ≡ value_at s x) e (stepped_value p.places a s l.instruction x n)
@@ -107,7 +107,7 @@ module _ (p : Procedure) (checked : IsChecked p) (v : ℕ) (relevant : ℕ → B
       )
 
   -- a run ends at the last line
-  last_kind : (a : ℕ) (s : State) → Finishes p a s → (l : LineAt p a) → kind_of l.instruction ≡ Last
+  pub last_kind : (a : ℕ) (s : State) → Finishes p a s → (l : LineAt p a) → kind_of l.instruction ≡ Last
   last_kind a s e l = stepped_end p.places a s l.instruction (ap (λ (y : Step). y.next) (sym (step_is p a s l.instruction l.there) ∙ e.2))
 
   ends : (a : ℕ) (s : State) → Finishes p a s → (relevant a ≡ true) × (needs a v ≡ true)
@@ -121,7 +121,7 @@ module _ (p : Procedure) (checked : IsChecked p) (v : ℕ) (relevant : ℕ → B
       let l = line_at p a e.0 in
       none_leaves (graph_of p) a b (node_of (returned_from 0 p.places) l.instruction) (graph_formed p checked) l.node (last_kind a s e l) j
 
-  simulates : Simulates (Joins (graph_of p).arcs) (GoesOn p) (Finishes p) value_at relevant needs v
+  pub simulates : Simulates (Joins (graph_of p).arcs) (GoesOn p) (Finishes p) value_at relevant needs v
   simulates = record {
     along = along;
     quiet = quiet;
@@ -139,7 +139,7 @@ module _ (p : Procedure) (checked : IsChecked p) (v : ℕ) (relevant : ℕ → B
       let k = step-kept p a s checked r in
       (w.0, w.1, (l, r, w.2), steps_end n w.0 w.1 last f (k.inside w.0 (ap (λ (x : Step). x.next) w.2)) (rw (ap (λ (x : Step). x.state) w.2) at k.in_range) w.3 e)
 
-  run_ends : (s f : State) (e : Ends p s f) → EndsIn (GoesOn p) (Finishes p) e.count 0 s f
+  pub run_ends : (s f : State) (e : Ends p s f) → EndsIn (GoesOn p) (Finishes p) e.count 0 s f
   run_ends s f e = let m = checked.some_lines in steps_end e.count 0 s e.halts.last f (omega arith) e.initial.in_range e.halts.steps e.halts.halts
 
   pub equal_values : (s t f g : State) → Ends p s f → Ends p t g → Agree (λ x. needs 0 x ≡ true) s t → value_at f v ≡ value_at g v

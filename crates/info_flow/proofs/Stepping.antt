@@ -59,19 +59,19 @@ pub record Alike (i : Instruction) (a b : ℕ) (f g : State) : Type 0 where
   pub value : (x : ℕ) → written_by i ≡ Some x → value_at f x ≡ value_at g x
 
 -- where a step that goes on goes
-lands_at : (q a : ℕ) (s f : State) → goes q s ≡ goes a f → q ≡ a
+pub lands_at : (q a : ℕ) (s f : State) → goes q s ≡ goes a f → q ≡ a
 lands_at q a s f e = let n : At q ≡ At a = ap (λ (x : Step). x.next) e in cc
 
-no_halt : {A : Type 0} (h : Halt) (s : State) (a : ℕ) (f : State) → stays h s ≡ goes a f → A
+pub no_halt : {A : Type 0} (h : Halt) (s : State) (a : ℕ) (f : State) → stays h s ≡ goes a f → A
 no_halt h s a f e = let n : Halted h ≡ At a = ap (λ (x : Step). x.next) e in absurd (cc)
 
 -- a condition of which one outcome goes on
-decided_met : (o : Option Bool) (h k : Halt) (q a : ℕ) (s f : State) → decided o (stays h s) (goes q s) (stays k s) ≡ goes a f → q ≡ a
+pub decided_met : (o : Option Bool) (h k : Halt) (q a : ℕ) (s f : State) → decided o (stays h s) (goes q s) (stays k s) ≡ goes a f → q ≡ a
 decided_met None h k q a s f e = no_halt h s a f e
 decided_met (Some true) h k q a s f e = lands_at q a s f e
 decided_met (Some false) h k q a s f e = no_halt k s a f e
 
-decided_never : {A : Type 0} (o : Option Bool) (h k l : Halt) (a : ℕ) (s f : State) → decided o (stays h s) (stays k s) (stays l s) ≡ goes a f → A
+pub decided_never : {A : Type 0} (o : Option Bool) (h k l : Halt) (a : ℕ) (s f : State) → decided o (stays h s) (stays k s) (stays l s) ≡ goes a f → A
 decided_never None h k l a s f e = no_halt h s a f e
 decided_never (Some true) h k l a s f e = no_halt k s a f e
 decided_never (Some false) h k l a s f e = no_halt l s a f e
@@ -109,7 +109,7 @@ given_alike : (pc p : ℕ) (place : Place) (o : Option ℤ) (a b : ℕ) (s t f g
 given_alike pc p place None a b s t f g m n d e = no_halt _ s a f d
 given_alike pc p place (Some w) a b s t f g m n d e = stored_alike pc p (kept place w) a b s t f g m n d e
 
-given_same : (place : Place) (e : Expression) (s t : State) → Agree (Reads e) s t → given place e s ≡ given place e t
+pub given_same : (place : Place) (e : Expression) (s t : State) → Agree (Reads e) s t → given place e s ≡ given place e t
 given_same place e s t n = rw (holds_alike e s t n, whole_alike e s t n) refl
 
 assigned_alike : (pc p : ℕ) (e : Expression) (o : Option Place) (a b : ℕ) (s t f g : State) → p < length s → p < length t → Agree (Reads e) s t

@@ -23,7 +23,7 @@ module _ {S V : Type 0} (E : ℕ → ℕ → Type 0) (goes : ℕ → S → ℕ �
     pub alone : (t : ℕ) → (relevant t ≡ true → ⊥) → HasPair E (λ x. relevant x ≡ true) t → ⊥
 
   -- a run up to its next relevant line
-  record Advanced (n a : ℕ) (s f : S) : Type 0 where
+  pub record Advanced (n a : ℕ) (s f : S) : Type 0 where
     pub line : ℕ
     pub count : ℕ
     pub state : S
@@ -51,7 +51,7 @@ module _ {S V : Type 0} (E : ℕ → ℕ → Type 0) (goes : ℕ → S → ℕ �
   }
 
   -- a run that ends comes to a relevant line, and nothing needed there changes on the way
-  advance : Simulates → (n a : ℕ) (s f : S) → EndsIn goes halts n a s f → Advanced n a s f
+  pub advance : Simulates → (n a : ℕ) (s f : S) → EndsIn goes halts n a s f → Advanced n a s f
   advance sim zero a s f e = arrived zero a s f (sim.ends a s e.0).0 e
   advance sim (suc n) a s f e = by_test (advance sim n e.0 e.1 f e.3) (relevant a) refl
     where

@@ -1,5 +1,5 @@
 pub mod Relevance
 pub mod Agreement
 pub mod Sources
+pub mod Variable
 pub mod Growth
-pub mod Sample

@@ -1,7 +1,7 @@
 use il_core::List;
 
 /// What the final value of a variable rests on.
-#[derive(Debug, Drop)]
+#[derive(Drop)]
 pub struct FlowRow {
     /// The variable's place.
     pub place: usize,

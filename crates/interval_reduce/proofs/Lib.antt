@@ -16,4 +16,3 @@ pub mod Order
 pub mod ReductionGraph
 pub mod ReductionShape
 pub mod ReductionOnce
-pub mod Discovery

@@ -1,7 +1,7 @@
 use il_core::List;
 
 /// A part of a graph that is entered at its head alone.
-#[derive(Debug, Drop)]
+#[derive(Drop)]
 pub struct Interval {
     /// The node through which each path into the interval leads.
     pub head: usize,
@@ -10,7 +10,7 @@ pub struct Interval {
 }
 
 /// The reduction of a graph by intervals.
-#[derive(Debug, Drop)]
+#[derive(Drop)]
 pub struct Derivation {
     /// The intervals of each level; the nodes of the next level are their heads.
     pub levels: List<List<Interval>>,

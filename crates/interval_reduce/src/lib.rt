@@ -14,6 +14,3 @@ mod levels;
 pub use derivation::derive;
 pub use interval::{Derivation, Interval};
 pub use laws::{levels_tell_shape, one_derivation, reduction_theorem};
-
-#[cfg(test)]
-mod tests;

@@ -3,4 +3,3 @@ pub mod NarrowFits
 pub mod LineFitting
 pub mod Ways
 pub mod Arcs
-pub mod Sample

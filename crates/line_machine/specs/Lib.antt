@@ -2,5 +2,4 @@ pub mod Fits
 pub mod Cut
 pub mod Laws
 pub mod Arcs
-pub mod Sample
 pub mod Static

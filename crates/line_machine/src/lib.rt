@@ -16,6 +16,3 @@ pub use evaluation::{calculate, is_related, negated, truth_value, value_in, whol
 pub use laws::{bounds_hold, division_is_euclidean, steps_stay_inside};
 pub use running::run_to_cut;
 pub use stepping::{decide, step, store};
-
-#[cfg(test)]
-mod tests;

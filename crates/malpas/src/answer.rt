@@ -14,7 +14,7 @@ use std::alloc::Global;
 const TEXT_LIMIT: usize = 1_048_576;
 
 /// What the bytes of a source are.
-#[derive(Debug, Drop)]
+#[derive(Drop)]
 pub(crate) enum Judged {
     /// A text that is accepted.
     Accepted(CheckedText),

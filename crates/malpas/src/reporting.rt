@@ -26,7 +26,7 @@ const ALL: Selection = Selection {
 };
 
 /// Why the parts of a text's procedures are not all written.
-#[derive(Clone, Copy, Debug)]
+#[derive(Clone, Copy)]
 enum PartsEnd {
     /// The sink failed.
     Failed,

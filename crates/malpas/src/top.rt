@@ -14,7 +14,7 @@ use report_text::Report;
 use std::alloc::Global;
 
 /// What the program did.
-#[derive(Debug, Drop)]
+#[derive(Drop)]
 pub struct Outcome {
     /// 0 where the report was written and each procedure is reducible, 1 where it was written and some procedure is
     /// not, 2 where the text was refused, 3 where the source failed, 4 where the sink failed, 5 where memory ran out,

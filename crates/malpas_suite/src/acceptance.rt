@@ -55,6 +55,3 @@ pub fn one_answer()
     one_links();
     il_types::one_answer();
 }
-
-#[cfg(test)]
-mod tests;

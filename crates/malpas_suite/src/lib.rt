@@ -9,8 +9,6 @@
 
 mod acceptance;
 mod analysis;
-#[cfg(test)]
-mod between;
 mod straight;
 
 pub use acceptance::{accept, one_answer};

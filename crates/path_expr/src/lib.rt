@@ -12,6 +12,3 @@ mod report;
 
 pub use path_report::paths;
 pub use report::{Def, PathReport, Ref};
-
-#[cfg(test)]
-mod tests;

@@ -25,7 +25,7 @@ pub enum Def {
 }
 
 /// All paths through a procedure as one expression.
-#[derive(Debug, Drop)]
+#[derive(Drop)]
 pub struct PathReport {
     /// The definitions, each over earlier ones alone.
     pub defs: List<Def>,

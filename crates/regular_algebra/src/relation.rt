@@ -12,7 +12,7 @@ const POINTS: usize = 66;
 
 /// A relation on the points 0 to 65. It holds a bit for each pair, so its functions take no memory beside it; `plus` takes
 /// time linear in the points, `times` and `star` quadratic.
-#[derive(Debug, Drop)]
+#[derive(Drop)]
 pub struct BitRelation {
     rows: [u128; POINTS],
 }

@@ -1,7 +1,7 @@
 use il_core::List;
 
 /// The ends of an arc: the node that it leaves and the node that it enters.
-#[derive(Clone, Copy, Debug, PartialEq, Eq)]
+#[derive(Clone, Copy, PartialEq, Eq)]
 pub struct Ends {
     pub tail: usize,
     pub head: usize,
@@ -18,14 +18,14 @@ pub enum Step {
 
 /// The steps of an elimination, and the number of the value that answers each target, or `None` where no path goes.
 /// Values are numbered from 0: first the arcs in their order, then the steps in theirs.
-#[derive(Debug, Drop)]
+#[derive(Drop)]
 pub struct Plan {
     pub steps: List<Step>,
     pub answers: List<Option<usize>>,
 }
 
 /// An arc with its value.
-#[derive(Debug, Drop)]
+#[derive(Drop)]
 pub struct Entry<A> {
     pub tail: usize,
     pub head: usize,

@@ -7,7 +7,7 @@ use interval_reduce::Derivation;
 use path_expr::PathReport;
 
 /// What is told of a reducible procedure alone.
-#[derive(Debug, Drop)]
+#[derive(Drop)]
 pub struct Analyses {
     /// All paths from line 0 to the last line.
     pub paths: PathReport,
@@ -20,7 +20,7 @@ pub struct Analyses {
 }
 
 /// The report of one procedure.
-#[derive(Debug, Drop)]
+#[derive(Drop)]
 pub struct ProcReport {
     /// The procedure's name.
     pub name: Name,
@@ -39,7 +39,7 @@ pub struct ProcReport {
 }
 
 /// The report of a text, or of its first procedures.
-#[derive(Debug, Drop)]
+#[derive(Drop)]
 pub struct Report {
     /// The profile of the text, 1 or 2.
     pub profile: u8,
@@ -50,7 +50,7 @@ pub struct Report {
 }
 
 /// The sections of a report that are to be written.
-#[derive(Clone, Copy, Debug, PartialEq, Eq)]
+#[derive(Clone, Copy, PartialEq, Eq)]
 pub struct Selection {
     /// The control structure and its reduction.
     pub control: bool,

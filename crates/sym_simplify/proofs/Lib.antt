@@ -16,3 +16,6 @@ pub mod HeldParts
 pub mod LiteralForms
 pub mod Alone
 pub mod KeptForms
+pub mod EasyParts
+pub mod KeptPlaces
+pub mod KeptBounds

@@ -1,16 +1,17 @@
 -- What holds of the normal term of each term: its constant is the sum of the numbers among the summands, each coefficient the sum of those
 -- that stand with its atom, and it is normal; it has the term's value in every state, and the term's weight bounds its numbers.
-use Rattle.std.specs.Prelude.{◌≡◌, ◌≤◌, ◌↔◌}
+use Rattle.std.specs.Prelude.{◌≡◌, ◌≤◌, ◌↔◌, negsuc}
 use Rattle.std.specs.Cmp.{IsTotalOrder}
 use Rattle.std.specs.declared.cmp.Ordering.TheVariants.{Equal}
 use Rattle.il_core.specs.Evaluation.{State}
-use Rattle.sym_terms.specs.Tree.{Tree}
+use Rattle.sym_terms.specs.Tree.{Tree, number, sum, product}
 use Rattle.sym_terms.specs.Value.{value_of}
 use Rattle.sym_terms.specs.Measure.{weight}
 use Rattle.sym_simplify.specs.Form.{Form, Factor, form_value}
 use Rattle.sym_simplify.specs.Order.{form_cmp, factor_cmp}
 use Rattle.sym_simplify.specs.Norm.{summands, norm, heft}
 use Rattle.sym_simplify.specs.Normal.{IsNormal, constant_of, coefficient_of, numbers_sum, coefficients_sum}
+use Rattle.sym_simplify.specs.Literal.{difference}
 
 abbrev pub ConstantsAreSums : Type 0
 ConstantsAreSums = (t : Tree) → constant_of (norm t) ≡ numbers_sum (summands t)
@@ -36,3 +37,7 @@ NormalTermsKeepValues = (t : Tree) (s : State) → form_value (norm t) s ≡ val
 
 abbrev pub WeightsBoundNormalTerms : Type 0
 WeightsBoundNormalTerms = (t : Tree) → heft (norm t) ≤ weight t
+
+-- the difference of two terms is the normal term of the one plus -1 times the other
+abbrev pub DifferencesAreNormalTerms : Type 0
+DifferencesAreNormalTerms = (x y : Tree) → difference x y ≡ norm (sum x (product (number (negsuc 0)) y))

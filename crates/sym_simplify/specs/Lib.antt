@@ -10,6 +10,8 @@ pub mod Held
 pub mod Store
 pub mod Literal
 pub mod Linear
+pub mod Easy
+pub mod Places
 pub mod FormText
 pub mod WorkedTexts
 pub mod Known

@@ -10,7 +10,7 @@ use sym_terms::{Pool, Term, TermId};
 /// Terms and their normal terms, each kept once and named by its number (hash consing: A. P. Ershov, 1958). Equal normal
 /// terms have equal numbers, and so have equal terms. What was found stays, so a term that is met again costs one
 /// look-up. `NoMemory` comes only where memory runs out.
-#[derive(Debug, Drop)]
+#[derive(Drop)]
 pub struct Forms {
     terms: Pool,
     table: FormTable,

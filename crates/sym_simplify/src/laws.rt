@@ -1,5 +1,5 @@
 //! Laws of normal terms, as contracts of functions that do nothing.
-ghost use Rattle.sym_simplify.specs.Laws.{ConstantsAreSums, CoefficientsAreSums, NormalTermsAreNormal, NormalTermsAreUnique, IsExactOrder, NormalTermsKeepValues, WeightsBoundNormalTerms};
+ghost use Rattle.sym_simplify.specs.Laws.{ConstantsAreSums, CoefficientsAreSums, NormalTermsAreNormal, NormalTermsAreUnique, IsExactOrder, NormalTermsKeepValues, WeightsBoundNormalTerms, DifferencesAreNormalTerms};
 ghost use Rattle.sym_simplify.specs.WorkedTexts.{WorkedTexts};
 
 /// The constant of a term's normal term is the sum of the numbers among the term's summands.
@@ -41,4 +41,9 @@ pub fn weights_bound_normal_terms()
 /// Some normal terms and literals have the texts that are worked out by hand for them.
 pub fn worked_texts()
     ensures { WorkedTexts }
+{}
+
+/// What a literal's form compares to 0 is the normal term of its left side plus -1 times its right side.
+pub fn differences_are_normal_terms()
+    ensures { DifferencesAreNormalTerms }
 {}

@@ -11,6 +11,7 @@
 
 mod arithmetic;
 mod comparing;
+mod easy;
 mod forms;
 mod laws;
 mod linear_terms;
@@ -23,16 +24,15 @@ mod reading;
 mod simplifying;
 mod table;
 
+pub use easy::{Multiple, is_easy, multiple_in};
 pub use forms::Forms;
 pub use laws::{
-    coefficients_are_sums, constants_are_sums, normal_terms_are_normal, normal_terms_are_unique,
-    normal_terms_keep_values, orders_are_exact, weights_bound_normal_terms, worked_texts,
+    coefficients_are_sums, constants_are_sums, differences_are_normal_terms,
+    normal_terms_are_normal, normal_terms_are_unique, normal_terms_keep_values, orders_are_exact,
+    weights_bound_normal_terms, worked_texts,
 };
 pub use node::{FormAtom, FormId, FormNode, FormPart};
 pub use normal::{Atom, Kept, LinearPart, LinearTerm, LitForm, Normal, Part};
 pub(crate) use opening::OpenForm;
 pub use simplifying::{linear, norm, norm_literal};
 pub(crate) use table::FormTable;
-
-#[cfg(test)]
-mod tests;

@@ -6,7 +6,7 @@ pub struct FormId {
 }
 
 /// An atom whose sides are numbered.
-#[derive(Clone, Copy, Debug, PartialEq, Eq, Hash)]
+#[derive(Clone, Copy, PartialEq, Eq, Hash)]
 pub enum FormAtom {
     /// The value of a place.
     Var(usize),
@@ -19,7 +19,7 @@ pub enum FormAtom {
 }
 
 /// An atom as often as the coefficient says.
-#[derive(Clone, Copy, Debug, PartialEq, Eq, Hash)]
+#[derive(Clone, Copy, PartialEq, Eq, Hash)]
 pub struct FormPart {
     /// How often.
     pub coefficient: i128,
@@ -28,7 +28,7 @@ pub struct FormPart {
 }
 
 /// A normal term, cell by cell: the first part before the rest, or the constant at the end.
-#[derive(Clone, Copy, Debug, PartialEq, Eq, Hash)]
+#[derive(Clone, Copy, PartialEq, Eq, Hash)]
 pub enum FormNode {
     /// The constant.
     Constant(i128),

@@ -57,7 +57,7 @@ pub enum LitForm {
 }
 
 /// A normal term all of whose atoms are places.
-#[derive(Debug, Drop)]
+#[derive(Drop)]
 pub struct LinearTerm {
     /// The constant.
     pub constant: i128,
@@ -66,7 +66,7 @@ pub struct LinearTerm {
 }
 
 /// A place as often as the coefficient says.
-#[derive(Clone, Copy, Debug, PartialEq, Eq)]
+#[derive(Clone, Copy, PartialEq, Eq)]
 pub struct LinearPart {
     /// How often.
     pub coefficient: i128,

@@ -10,7 +10,7 @@ use std::alloc::Global;
 use std::cmp::Ordering;
 
 /// A normal term with its parts at hand, one after the other; the sides of their atoms are numbered.
-#[derive(Debug, Drop)]
+#[derive(Drop)]
 pub struct OpenForm {
     /// The constant.
     pub constant: i128,

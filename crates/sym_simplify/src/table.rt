@@ -10,7 +10,7 @@ use std::marker::Model;
 
 /// The cells of normal terms, each kept once and named by its number. A cell names only cells with lower numbers, so
 /// each number has a normal term. Equal normal terms have equal numbers.
-#[derive(Debug, Drop)]
+#[derive(Drop)]
 pub struct FormTable {
     nodes: IndexSet<FormNode>,
     alloc: Global,

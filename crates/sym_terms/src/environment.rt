@@ -4,7 +4,7 @@ use std::alloc::Global;
 use std::marker::Model;
 
 /// One term for each place: what the place holds, over the places of an earlier state.
-#[derive(Debug, Drop)]
+#[derive(Drop)]
 pub struct Env {
     terms: Vec<Term>,
 }

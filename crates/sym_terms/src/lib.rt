@@ -18,6 +18,3 @@ pub use node::{TermId, TermNode};
 pub use pool::Pool;
 pub use substitution::subst;
 pub use term::{Literal, Term};
-
-#[cfg(test)]
-mod tests;

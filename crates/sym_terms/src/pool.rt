@@ -10,7 +10,7 @@ use std::marker::Model;
 
 /// A pool of nodes, each kept once and named by its number. A node names only nodes with lower numbers, so each number
 /// has a term: the tree found by following the numbers. Equal terms have equal numbers.
-#[derive(Debug, Drop)]
+#[derive(Drop)]
 pub struct Pool {
     nodes: IndexSet<TermNode>,
     alloc: Global,

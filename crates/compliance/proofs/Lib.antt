@@ -1,0 +1,13 @@
+pub mod Members
+pub mod CutRuns
+pub mod QuietLines
+pub mod Openings
+pub mod Following
+pub mod ShortPaths
+pub mod NoBadRun
+pub mod SafeLists
+pub mod Taking
+pub mod TakenBack
+pub mod Verdicts
+pub mod OneVerdict
+pub mod Listings

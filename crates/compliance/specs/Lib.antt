@@ -1,0 +1,5 @@
+pub mod Opening
+pub mod Threat
+pub mod Verdict
+pub mod Safe
+pub mod Laws

@@ -1,0 +1,45 @@
+-- The threats of all regions within their size, region by region, each with its verdict.
+use Rattle.std.specs.Prelude.{◌≡◌, ℕ, Option, Some, None, List, [], ◌∷◌, ◌++◌, map}
+use Rattle.il_core.specs.LineGraph.{IsIn}
+use Rattle.il_core.specs.Procedure.{Procedure}
+use Rattle.il_core.specs.Run.{HasNoBadRun}
+use Rattle.il_core.specs.declared.line.Stop.TheVariants.{Halted}
+use Rattle.control_flow.specs.declared.control.LoopInfo.{LoopInfo}
+use Rattle.sym_simplify.specs.Literal.{literal_form_of}
+use Rattle.region_paths.specs.Region.{first_lines}
+use Rattle.region_paths.specs.Listing.{RegionPath}
+use Rattle.region_paths.specs.Size.{IsPast}
+use Rattle.region_paths.specs.declared.limit.Limit.{Limit}
+use Rattle.semantic_tables.specs.Row.{forms_of}
+use Rattle.compliance.specs.Threat.{AreThreats}
+use Rattle.compliance.specs.Verdict.{HasVerdict}
+use Rattle.compliance.specs.declared.threat.Threat.{Threat}
+use Rattle.compliance.specs.declared.threat.Verdict.TheVariants.{Refuted}
+
+-- a threat of the region of line pc with its verdict
+pub record IsTold (p : Procedure) (pc : ℕ) (r : RegionPath) (t : Threat) : Type 0 where
+  pub region : t.region ≡ pc
+  pub path : t.path ≡ r.row.path
+  pub literals : map literal_form_of t.literals ≡ forms_of r
+  pub stop : r.stop ≡ Halted t.stop
+  pub verdict : HasVerdict p pc r t.verdict
+
+-- each with its verdict, in order
+abbrev pub AreTold : Procedure → ℕ → List RegionPath → List Threat → Type 0
+AreTold p pc [] ts = ts ≡ []
+AreTold p pc (r ∷ rows) [] = ⊥
+AreTold p pc (r ∷ rows) (t ∷ ts) = IsTold p pc r t × AreTold p pc rows ts
+
+-- no threat of a region that is past its size is listed, and all of any other one
+abbrev pub AreListedWithin : Procedure → List LoopInfo → ℕ → Option Limit → List Threat → Type 0
+AreListedWithin p loops pc (Some limit) ts = ts ≡ []
+AreListedWithin p loops pc None ts = (rows : List RegionPath) × AreThreats p loops pc rows × AreTold p pc rows ts
+
+abbrev pub AreThreatsOf : Procedure → List LoopInfo → List ℕ → List Threat → Type 0
+AreThreatsOf p loops [] ts = ts ≡ []
+AreThreatsOf p loops (pc ∷ lines) ts = (here : List Threat) × (others : List Threat) × (ts ≡ here ++ others)
+    × (past : Option Limit) × IsPast p loops pc past × AreListedWithin p loops pc past here × AreThreatsOf p loops lines others
+
+-- where no region is past its size and each threat listed is refuted, no run from the precondition halts badly
+abbrev pub IsSafeWhereRefuted : Procedure → List LoopInfo → List Threat → Type 0
+IsSafeWhereRefuted p loops ts = ((pc : ℕ) → IsIn (first_lines loops) pc → IsPast p loops pc None) → ((t : Threat) → IsIn ts t → t.verdict ≡ Refuted) → HasNoBadRun p

@@ -1,0 +1,6 @@
+pub mod Nearer
+pub mod Slice
+pub mod Laws
+pub mod Distance
+pub mod Layer
+pub mod Sides

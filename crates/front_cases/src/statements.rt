@@ -1,0 +1,173 @@
+//! The statements of a text.
+use crate::words::tokens_of;
+use il_core::{Bound, Form, Mode, NoMemory, TextEnd, TypeUse};
+use il_syntax::parse;
+use std::alloc::{AllocError, Global};
+use std::test::Fail;
+
+fn mode_text(mode: Mode) -> &'static str {
+    match mode {
+        Mode::Input => "in",
+        Mode::InOut => "inout",
+        Mode::Output => "out",
+        Mode::Local => "local",
+    }
+}
+
+fn put_bound(out: &mut String, bound: &Bound) -> Result<(), AllocError> {
+    match bound {
+        Bound::Number(i64::MIN) => out.push_str(" least"),
+        Bound::Number(0) => out.push_str(" 0"),
+        Bound::Number(i64::MAX) => out.push_str(" greatest"),
+        Bound::Number(_) => out.push_str(" other"),
+        Bound::Constant(_) => out.push_str(" name"),
+    }
+}
+
+fn put_type(out: &mut String, declared: &TypeUse) -> Result<(), AllocError> {
+    match declared {
+        TypeUse::Bool => out.push_str(" bool"),
+        TypeUse::Named(_) => out.push_str(" name"),
+        TypeUse::Range(least, greatest) => {
+            put_bound(out, least)?;
+            put_bound(out, greatest)
+        }
+        TypeUse::Wrap(least, greatest) => {
+            out.push_str(" wrap")?;
+            put_bound(out, least)?;
+            put_bound(out, greatest)
+        }
+    }
+}
+
+/// What a form is, in a few words.
+fn put_form(out: &mut String, form: &Form) -> Result<(), AllocError> {
+    match form {
+        Form::Title(_) => out.push_str("title"),
+        Form::Const(_, value) => {
+            out.push_str("const")?;
+            put_bound(out, &Bound::Number(*value))
+        }
+        Form::RangeType(_, least, greatest) => {
+            out.push_str("type")?;
+            put_bound(out, least)?;
+            put_bound(out, greatest)
+        }
+        Form::WrapType(_, least, greatest) => {
+            out.push_str("type wrap")?;
+            put_bound(out, least)?;
+            put_bound(out, greatest)
+        }
+        Form::EnumType(_, values) => {
+            out.push_str("type of")?;
+            for _ in values.as_slice() {
+                out.push_str(" name")?;
+            }
+            Ok(())
+        }
+        Form::Proc(_) => out.push_str("proc"),
+        Form::Variable(mode, _, declared) => {
+            out.push_str(mode_text(*mode))?;
+            put_type(out, declared)
+        }
+        Form::Pre(_) => out.push_str("pre"),
+        Form::Post(_) => out.push_str("post"),
+        Form::Assign(_, _) => out.push_str("assign"),
+        Form::If(_) => out.push_str("if"),
+        Form::Else => out.push_str("else"),
+        Form::EndIf => out.push_str("endif"),
+        Form::Loop => out.push_str("loop"),
+        Form::EndLoop => out.push_str("endloop"),
+        Form::Exit => out.push_str("exit"),
+        Form::ExitWhen(_) => out.push_str("exit when"),
+        Form::Label(_) => out.push_str("label"),
+        Form::Goto(_) => out.push_str("goto"),
+        Form::Skip => out.push_str("skip"),
+        Form::Assert(_) => out.push_str("assert"),
+        Form::Return => out.push_str("return"),
+        Form::EndProc => out.push_str("endproc"),
+        Form::Finish => out.push_str("finish"),
+    }
+}
+
+/// The statements of a text of words, or its refusal.
+fn answer(alloc: Global, text: &str) -> Result<String, Fail> {
+    let tokens = tokens_of(alloc, text)?;
+    let mut out = String::new(alloc);
+    match parse(alloc, text.len(), tokens.as_slice()) {
+        Ok(stmts) => {
+            for stmt in stmts.as_slice() {
+                put_form(&mut out, &stmt.form)?;
+                out.push_str(";")?;
+            }
+        }
+        Err(TextEnd::Refused(refusal)) => {
+            let code = refusal.code;
+            let place = refusal.place;
+            return Ok(format!(in alloc; "{code:?} {place}")?);
+        }
+        Err(TextEnd::NoMemory) => return Err(Fail::from(NoMemory)),
+    }
+    Ok(out)
+}
+
+#[test]
+fn answers_are_those_of_the_grammar(rt: HostRuntime) -> Result<(), Fail> {
+    let cases = [
+        // Each form once.
+        (
+            "TITLE t ; CONST a = - 9223372036854775808 ; CONST b = 9223372036854775807 ; TYPE c = - 0 .. b ; TYPE d = WRAP a .. 0 ; TYPE e = ( f ) ; TYPE g = ( h , i , j ) ; PROC p ; IN k : BOOL ; INOUT l : c ; OUT m : 0 .. b ; LOCAL n : WRAP 0 .. 1 ; PRE k ; POST NOT k ; ENDPROC ; FINISH ;",
+            "title;const least;const greatest;type 0 name;type wrap name 0;type of name;type of name name name;proc;in bool;inout name;out 0 name;local wrap 0 other;pre;post;endproc;finish;",
+        ),
+        (
+            "TITLE t ; PROC p ; PRE TRUE ; POST TRUE ; a := - b ; IF a < b ; ELSE ; ENDIF ; LOOP ; EXIT ; EXIT WHEN a = b ; ENDLOOP ; LABEL l ; GOTO l ; SKIP ; ASSERT OLD a < b ; RETURN ; ENDPROC ; PROC q ; PRE TRUE ; POST TRUE ; ENDPROC ; FINISH ;",
+            "title;proc;pre;post;assign;if;else;endif;loop;exit;exit when;endloop;label;goto;skip;assert;return;endproc;proc;pre;post;endproc;finish;",
+        ),
+        // Statements without a form.
+        (";", "Syntax 0"),
+        ("TITLE t ; CALL q ;", "Syntax 10"),
+        ("TITLE t ; TITLE ; FINISH ;", "Syntax 10"),
+        ("TITLE t ; CONST a = b ;", "Syntax 10"),
+        ("TITLE t ; CONST a = - - 1 ;", "Syntax 10"),
+        ("TITLE t ; TYPE a = ( ) ;", "Syntax 10"),
+        ("TITLE t ; TYPE a = ( b , ) ;", "Syntax 10"),
+        ("TITLE t ; TYPE a = BOOL ;", "Syntax 10"),
+        ("TITLE t ; TYPE a = - b .. 1 ;", "Syntax 10"),
+        ("TITLE t ; IN a : WRAP BOOL ;", "Syntax 10"),
+        ("TITLE t ; IN a : WRAP b ;", "Syntax 10"),
+        ("TITLE t ; IN a : 0 .. 1 .. 2 ;", "Syntax 10"),
+        ("TITLE t ; EXIT WHEN ;", "Syntax 10"),
+        ("TITLE t ; ELSE a ;", "Syntax 10"),
+        ("TITLE t ; a = b ;", "Syntax 10"),
+        // Tokens behind the last semicolon.
+        ("FINISH", "Syntax 0"),
+        ("TITLE t ; SKIP ; FINISH ; a b", "Syntax 26"),
+        // Statements out of order.
+        ("", "Order 0"),
+        ("TITLE t ;", "Order 9"),
+        ("PROC p ; TITLE t ;", "Order 0"),
+        ("TITLE t ; TITLE t ;", "Order 10"),
+        ("TITLE t ; FINISH ;", "Order 10"),
+        ("TITLE t ; PROC p ; CONST a = 0 ;", "Order 19"),
+        ("TITLE t ; PROC p ; PRE TRUE ; SKIP ;", "Order 30"),
+        ("TITLE t ; PROC p ; POST TRUE ; PRE TRUE ;", "Order 19"),
+        (
+            "TITLE t ; PROC p ; PRE TRUE ; POST TRUE ; PROC q ;",
+            "Order 42",
+        ),
+        (
+            "TITLE t ; PROC p ; PRE TRUE ; POST TRUE ; ENDPROC ; CONST a = 0 ;",
+            "Order 52",
+        ),
+        (
+            "TITLE t ; PROC p ; PRE TRUE ; POST TRUE ; ENDPROC ; FINISH ; FINISH ;",
+            "Order 61",
+        ),
+        // A form is looked for over the whole text first.
+        ("SKIP ; TITLE t ; a b ;", "Syntax 17"),
+    ];
+    for (text, want) in cases {
+        assert_eq!(rt; answer(rt.alloc(), text)?.as_str(), want, "at {text}");
+    }
+    Ok(())
+}

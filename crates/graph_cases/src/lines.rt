@@ -1,0 +1,126 @@
+//! The graphs of checked procedures.
+use crate::sample::procedure;
+use flow_graph::{
+    Arc, Node, NodeKind, build, paths_from, predecessors, reachable, steps_go_along_arcs,
+    successors, walks_are_paths,
+};
+use il_core::{CheckedProc, Expr, Line, List, Name, NoMemory};
+use std::alloc::Global;
+use std::test::Fail;
+
+/// PRE TRUE and ENDPROC.
+pub fn smallest(alloc: Global, name: Name) -> Result<CheckedProc, NoMemory> {
+    let mut lines = List::new(alloc);
+    lines.push(Line::Pre(Expr::Truth(true)))?;
+    lines.push(Line::EndProc(Expr::Truth(true)))?;
+    Ok(CheckedProc::new(name, List::new(alloc), lines))
+}
+
+/// PRE TRUE, IF TRUE, ENDIF and ENDPROC.
+fn forked(alloc: Global, name: Name) -> Result<CheckedProc, NoMemory> {
+    let mut lines = List::new(alloc);
+    lines.push(Line::Pre(Expr::Truth(true)))?;
+    lines.push(Line::If(Expr::Truth(true), 2))?;
+    lines.push(Line::EndIf)?;
+    lines.push(Line::EndProc(Expr::Truth(true)))?;
+    Ok(CheckedProc::new(name, List::new(alloc), lines))
+}
+
+/// A line that reads the places of a mask and writes none.
+fn reading(kind: NodeKind, reads: u64) -> Node {
+    Node {
+        kind,
+        reads,
+        writes: None,
+        last_reads: 0,
+    }
+}
+
+/// An assignment of a place that reads the places of a mask.
+fn writing(place: usize, reads: u64) -> Node {
+    Node {
+        kind: NodeKind::Assign,
+        reads,
+        writes: Some(place),
+        last_reads: 0,
+    }
+}
+
+#[test]
+fn a_test_has_two_arcs_and_the_end_has_none(rt: HostRuntime) -> Result<(), Fail> {
+    let name = Name::new(b"x").ok_or("no name")?;
+    let graph = build(rt.alloc(), &procedure(rt.alloc(), name)?)?;
+    let wanted = [
+        Arc { tail: 0, head: 1 },
+        Arc { tail: 1, head: 2 },
+        Arc { tail: 2, head: 3 },
+        Arc { tail: 3, head: 4 },
+        Arc { tail: 4, head: 5 },
+        Arc { tail: 5, head: 6 },
+        Arc { tail: 6, head: 7 },
+        Arc { tail: 7, head: 8 },
+        Arc { tail: 8, head: 9 },
+        Arc { tail: 9, head: 12 },
+        Arc { tail: 9, head: 10 },
+        Arc { tail: 10, head: 11 },
+        Arc { tail: 10, head: 12 },
+        Arc { tail: 11, head: 8 },
+        Arc { tail: 12, head: 13 },
+    ];
+    assert_eq!(rt; graph.arcs.as_slice(), wanted.as_slice());
+    let forked = build(rt.alloc(), &forked(rt.alloc(), name)?)?;
+    let both = [
+        Arc { tail: 0, head: 1 },
+        Arc { tail: 1, head: 2 },
+        Arc { tail: 1, head: 2 },
+        Arc { tail: 2, head: 3 },
+    ];
+    assert_eq!(rt; forked.arcs.as_slice(), both.as_slice());
+    Ok(())
+}
+
+#[test]
+fn a_line_reads_and_writes_its_places(rt: HostRuntime) -> Result<(), Fail> {
+    let name = Name::new(b"x").ok_or("no name")?;
+    let graph = build(rt.alloc(), &procedure(rt.alloc(), name)?)?;
+    let wanted = [
+        reading(NodeKind::Other, 0),
+        writing(2, 3),
+        writing(2, 3),
+        writing(4, 16),
+        writing(3, 15),
+        writing(3, 15),
+        writing(3, 15),
+        writing(3, 15),
+        reading(NodeKind::Plain, 0),
+        reading(NodeKind::Test, 7),
+        reading(NodeKind::Test, 7),
+        reading(NodeKind::Other, 0),
+        reading(NodeKind::Assertion, 0),
+        reading(NodeKind::Last, 0),
+    ];
+    assert_eq!(rt; graph.nodes.as_slice(), wanted.as_slice());
+    Ok(())
+}
+
+#[test]
+fn answers_the_smallest_graph(rt: HostRuntime) -> Result<(), Fail> {
+    steps_go_along_arcs();
+    walks_are_paths();
+    let name = Name::new(b"p").ok_or("no name")?;
+    let proc = smallest(rt.alloc(), name)?;
+    let graph = build(rt.alloc(), &proc)?;
+    assert_eq!(rt; graph.arcs.len(), 1);
+    assert_eq!(rt;
+        reachable(rt.alloc(), &graph)?.as_slice(),
+        [true, true].as_slice()
+    );
+    let rows = successors(rt.alloc(), &graph)?;
+    let blocked = vec![in rt.alloc(); false; rows.len()]?;
+    let paths = paths_from(rt.alloc(), rows.as_slice(), blocked.as_slice(), 0)?;
+    for path in paths.as_slice() {
+        assert_eq!(rt; path.as_slice().first().copied(), Some(0));
+    }
+    assert_eq!(rt; predecessors(rt.alloc(), &graph)?.len(), 2);
+    Ok(())
+}

@@ -1,5 +1,0 @@
-use Rattle.line_machine.proofs.Sample.{checked_like}
-use Rattle.line_machine.proofs.tests.procedure.Goals as goal
-
-pub new-requires : goal.new-requires
-new-requires c = checked_like c.args.name c.in_ok-places.places _ c.in_ok-places.ensures c.in_ok-lines.ensures

@@ -1,0 +1,4 @@
+pub mod Core
+pub mod Least
+pub mod Laws
+pub mod Bounding

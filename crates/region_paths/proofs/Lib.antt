@@ -1,0 +1,15 @@
+pub mod Marks
+pub mod Cuts
+pub mod Orders
+pub mod Descent
+pub mod Taking
+pub mod Matching
+pub mod Fits
+pub mod Trees
+pub mod Steps
+pub mod Listed
+pub mod Nodes
+pub mod Tallies
+pub mod Totals
+pub mod Walking
+pub mod Sized

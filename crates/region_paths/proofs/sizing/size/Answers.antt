@@ -1,0 +1,54 @@
+use Rattle.std.proofs.Common.{◌≡◌, sym, ap, ◌∙◌, subst, ℕ, Some, None, map, length, arith}
+use Rattle.std.proofs.lemmas.List.{length-map}
+use Rattle.il_core.specs.Procedure.{instruction_of}
+use Rattle.il_core.specs.Checked.{procedure_of}
+use Rattle.sym_terms.specs.Measure.{measured}
+use Rattle.sym_terms.specs.Identity.{own_values}
+use Rattle.sym_terms.proofs.Composed.{length-own_values}
+use Rattle.test_graph.specs.Decision.{decision_at}
+use Rattle.region_paths.specs.Walk.{LeadInside}
+use Rattle.region_paths.specs.Size.{IsPast}
+use Rattle.region_paths.proofs.Sized.{lead_inside, begins, first_inside, past_from}
+use Rattle.region_paths.proofs.Walking.{stands_line}
+use Rattle.region_paths.proofs.sizing.size.Goals as goal
+
+pub first_node-first-requires-clause-line : goal.first_node-first-requires-clause-line
+first_node-first-requires-clause-line c =
+    let b = begins (procedure_of c.args.proc.now) c.args.control.now c.args.pc c.places.ensures.checked c.requires.control c.requires.shape c.requires.first in
+    omega (arith, first_inside (procedure_of c.args.proc.now) c.args.control.now.loops c.args.pc b, length-map c.args.proc.now.lines instruction_of)
+
+pub follow-tally-requires-clause-stands : goal.follow-tally-requires-clause-stands
+follow-tally-requires-clause-stands c =
+    stands_line (procedure_of c.args.proc.now) c.args.graph.now c.args.pc c.first_node-first.result c.places.ensures.checked c.first_node-first.ensures.unfolds
+
+pub follow-tally-requires-clause-leading : goal.follow-tally-requires-clause-leading
+follow-tally-requires-clause-leading c =
+    subst (LeadInside (procedure_of c.args.proc.now)) (sym c.as_slice.ensures) (lead_inside (procedure_of c.args.proc.now) c.args.control.now c.requires.control)
+
+pub follow-tally-requires-clause-size : goal.follow-tally-requires-clause-size
+follow-tally-requires-clause-size c =
+    let count : c.len.result ≡ length c.args.proc.now.places = c.len.ensures ∙ ap length c.places.ensures.value in
+    let sizes : c.deref_mut.result.now ≡ map measured (own_values (length c.args.proc.now.places)) =
+    c.deref_mut.ensures.value ∙ c.in_ok-sizes.ensures.sizes ∙ ap (λ (k : ℕ). map measured (own_values k)) count in
+    ap length sizes ∙ length-map (own_values (length c.args.proc.now.places)) measured ∙ length-own_values (length c.args.proc.now.places)
+
+pub returns-in-Some : goal.returns-in-Some
+returns-in-Some c =
+    let b = begins (procedure_of c.args.proc.now) c.args.control.now c.args.pc c.places.ensures.checked c.requires.control c.requires.shape c.requires.first in
+    let count : c.len.result ≡ length c.args.proc.now.places = c.len.ensures ∙ ap length c.places.ensures.value in
+    let sizes : c.deref_mut.result.now ≡ map measured (own_values (length c.args.proc.now.places)) =
+    c.deref_mut.ensures.value ∙ c.in_ok-sizes.ensures.sizes ∙ ap (λ (k : ℕ). map measured (own_values k)) count in
+    let room : c.len-2.result ≡ length (procedure_of c.args.proc.now).lines = c.len-2.ensures ∙ ap length c.lines.ensures.value ∙ sym (length-map c.args.proc.now.lines instruction_of) in
+    subst (IsPast (procedure_of c.args.proc.now) c.args.control.now.loops c.args.pc) (sym c.limit.ensures)
+    (past_from (procedure_of c.args.proc.now) c.args.control.now.loops c.args.pc (Some c.in-Some.tally) c.as_slice.result.now c.len-2.result c.empty.result c.paths_are_listed.ensures b c.as_slice.ensures room c.empty.ensures
+    (c.in-Some.ensures.exact (own_values (length c.args.proc.now.places)) (decision_at (procedure_of c.args.proc.now) c.args.pc) (sym sizes) c.first_node-first.ensures.unfolds))
+
+pub returns : goal.returns
+returns c =
+    let b = begins (procedure_of c.args.proc.now) c.args.control.now c.args.pc c.places.ensures.checked c.requires.control c.requires.shape c.requires.first in
+    let count : c.len.result ≡ length c.args.proc.now.places = c.len.ensures ∙ ap length c.places.ensures.value in
+    let sizes : c.deref_mut.result.now ≡ map measured (own_values (length c.args.proc.now.places)) =
+    c.deref_mut.ensures.value ∙ c.in_ok-sizes.ensures.sizes ∙ ap (λ (k : ℕ). map measured (own_values k)) count in
+    let room : c.len-2.result ≡ length (procedure_of c.args.proc.now).lines = c.len-2.ensures ∙ ap length c.lines.ensures.value ∙ sym (length-map c.args.proc.now.lines instruction_of) in
+    past_from (procedure_of c.args.proc.now) c.args.control.now.loops c.args.pc None c.as_slice.result.now c.len-2.result c.empty.result c.paths_are_listed.ensures b c.as_slice.ensures room c.empty.ensures
+    (c.in-None.ensures.exact (own_values (length c.args.proc.now.places)) (decision_at (procedure_of c.args.proc.now) c.args.pc) (sym sizes) c.first_node-first.ensures.unfolds)

@@ -1,0 +1,10 @@
+pub mod Region
+pub mod Chain
+pub mod PlainRow
+pub mod Listing
+pub mod Stepping
+pub mod PathTree
+pub mod Size
+pub mod Tally
+pub mod Walk
+pub mod Laws

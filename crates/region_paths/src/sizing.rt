@@ -1,0 +1,76 @@
+//! The size of a region, found along one walk down the tree of its long paths.
+ghost use Rattle.std.specs.Prelude.{◌≡◌, IfOk, All, map};
+ghost use Rattle.il_core.specs.LineGraph.{IsIn};
+ghost use Rattle.il_core.specs.Checked.{procedure_of};
+ghost use Rattle.flow_graph.specs.Graph.{graph_of};
+ghost use Rattle.control_flow.specs.Control.{IsControlOf};
+ghost use Rattle.control_flow.specs.declared.control.Shape.TheVariants.{Reducible};
+ghost use Rattle.sym_terms.specs.Measure.{measured, IsCapped};
+ghost use Rattle.sym_terms.specs.Identity.{own_values};
+ghost use Rattle.test_graph.specs.Lowered.{IsLowered};
+ghost use Rattle.region_paths.specs.Region.{first_lines};
+ghost use Rattle.region_paths.specs.Size.{IsPast};
+
+use crate::laws::paths_are_listed;
+use crate::limit::Limit;
+use crate::tally::Tally;
+use crate::walk::{first_node, follow};
+use control_flow::Control;
+use il_core::{CheckedProc, NoMemory};
+use std::alloc::Global;
+use sym_terms::TermMeasure;
+use test_graph::TestGraph;
+
+/// The sizes of the first `count` places, each of which stands for itself.
+fn own_sizes(alloc: Global, count: usize) -> Result<Vec<TermMeasure>, NoMemory>
+    ensures sizes { IfOk result (λ v. v.items ≡ map measured (own_values count)) }
+    ensures capped { IfOk result (λ v. All IsCapped v.items) }
+{
+    let mut sizes = Vec::new(alloc);
+    for _place in 0..count {
+        sizes.push(TermMeasure {
+            nodes: 1,
+            weight: 1,
+            depth: 1,
+        })?;
+    }
+    Ok(sizes)
+}
+
+/// The first limit that the region of line `pc` passes, and `None` exactly where it passes none: more than 16,384 long
+/// paths; more than 2,097,152 nodes of the comparisons decided and the terms assigned on them, counted for each path;
+/// one of these with a weight of 2^100 or more; one deeper than 1,000.
+///
+/// `graph` and `control` are those of `proc`, whose shape is reducible, and `pc` is line 0 or a loop head. It walks down
+/// the tree of decisions once, with the capped sizes of the places' terms in place of the terms, and stops at too many
+/// paths, so that it takes memory for the places alone.
+pub fn size(
+    alloc: Global,
+    proc: &CheckedProc,
+    graph: &TestGraph,
+    control: &Control,
+    pc: usize,
+) -> Result<Option<Limit>, NoMemory>
+    requires lowered { IsLowered (procedure_of proc.now) graph.now }
+    requires control { IsControlOf (graph_of (procedure_of proc.now)) control.now }
+    requires shape { control.now.shape ≡ Reducible }
+    requires first { IsIn (first_lines control.now.loops) pc }
+    ensures { IfOk result (λ past. IsPast (procedure_of proc.now) control.now.loops pc past) }
+{
+    paths_are_listed();
+    let mut sizes = own_sizes(alloc, proc.places().len())?;
+    let first = first_node(proc, graph, pc);
+    let tally = follow(
+        proc,
+        graph,
+        control.loops.as_slice(),
+        first,
+        proc.lines().len(),
+        &mut sizes,
+        Tally::empty(),
+    );
+    match tally {
+        Some(tally) => Ok(tally.limit()),
+        None => Ok(Some(Limit::Rows)),
+    }
+}

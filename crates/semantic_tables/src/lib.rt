@@ -1,0 +1,10 @@
+//! The table of a region: the rows of its paths that are not plainly refuted, with the normal forms of their literals and
+//! values. Each input of the region has exactly one row, and stepping the lines from it gives the row's stop and values,
+//! so that the table says in one look what the lines do (J. C. King, Symbolic execution and program testing, 1976).
+#![tactic(auto)]
+
+mod laws;
+mod row;
+
+pub use laws::{inputs_have_one_long_row, inputs_have_one_row, one_table};
+pub use row::{Row, TableOr};
