@@ -11,4 +11,6 @@ mod sections;
 #[cfg(test)]
 mod slices;
 #[cfg(test)]
+mod ways;
+#[cfg(test)]
 mod written;
