@@ -43,7 +43,7 @@ fn own_sizes(alloc: Global, count: usize) -> Result<Vec<TermMeasure>, NoMemory>
 ///
 /// `graph` and `control` are those of `proc`, whose shape is reducible, and `pc` is line 0 or a loop head. It walks down
 /// the tree of decisions once, with the capped sizes of the places' terms in place of the terms, and stops at too many
-/// paths, so that it takes memory for the places alone.
+/// paths. It takes memory for the places alone, and goes as deep as a path has decisions.
 pub fn size(
     alloc: Global,
     proc: &CheckedProc,
