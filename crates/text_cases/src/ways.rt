@@ -227,3 +227,36 @@ fn steps_follow_decisions(rt: HostRuntime) -> Result<(), Fail> {
     }
     Ok(())
 }
+
+/// A condition of the given depth through which more ways lead than two to the power of the depth.
+fn many_ways(alloc: Global, depth: usize) -> Result<String, AllocError> {
+    let mut text = format!(in alloc; "a = 1")?;
+    for _level in 0..depth {
+        text = format!(in alloc; "(({text}) OR f) AND g")?;
+    }
+    Ok(text)
+}
+
+/// How many nodes a procedure with one test has.
+fn nodes_with(alloc: Global, condition: &str) -> Result<usize, Fail> {
+    let text = format!(in alloc; "TITLE t;PROC p;IN a : 0 .. 9;IN f : BOOL;IN g : BOOL;PRE TRUE;POST TRUE;IF {condition};ENDIF;ENDPROC;FINISH;")?;
+    let bytes = text.as_bytes();
+    if bytes.len() > 1_048_576 {
+        return Err(Fail::from("too long"));
+    }
+    let checked = accept(alloc, bytes).or(Err("refused"))?;
+    let proc = checked.procs().get(0).ok_or("no procedure")?;
+    let graph = lower(alloc, proc)?;
+    Ok(graph.nodes.len())
+}
+
+#[test]
+fn many_ways_have_few_nodes(rt: HostRuntime) -> Result<(), Fail> {
+    // four lines, six halts, and a node for each comparison and each truth value
+    for depth in [0usize, 1, 2, 20] {
+        let condition = many_ways(rt.alloc(), depth)?;
+        let nodes = nodes_with(rt.alloc(), condition.as_str())?;
+        assert_eq!(rt; nodes, 11 + 2 * depth);
+    }
+    Ok(())
+}
