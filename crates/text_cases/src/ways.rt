@@ -239,7 +239,9 @@ fn many_ways(alloc: Global, depth: usize) -> Result<String, AllocError> {
 
 /// How many nodes a procedure with one test has.
 fn nodes_with(alloc: Global, condition: &str) -> Result<usize, Fail> {
-    let text = format!(in alloc; "TITLE t;PROC p;IN a : 0 .. 9;IN f : BOOL;IN g : BOOL;PRE TRUE;POST TRUE;IF {condition};ENDIF;ENDPROC;FINISH;")?;
+    let text = format!(in alloc;
+        "TITLE t;PROC p;IN a : 0 .. 9;IN f : BOOL;IN g : BOOL;PRE TRUE;POST TRUE;IF {condition};ENDIF;ENDPROC;FINISH;"
+    )?;
     let bytes = text.as_bytes();
     if bytes.len() > 1_048_576 {
         return Err(Fail::from("too long"));
