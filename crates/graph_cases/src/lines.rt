@@ -1,9 +1,6 @@
 //! The graphs of checked procedures.
 use crate::sample::procedure;
-use flow_graph::{
-    Arc, Node, NodeKind, build, paths_from, predecessors, reachable, steps_go_along_arcs,
-    successors, walks_are_paths,
-};
+use flow_graph::{Arc, Node, NodeKind, build};
 use il_core::{CheckedProc, Expr, Line, List, Name, NoMemory};
 use std::alloc::Global;
 use std::test::Fail;
@@ -100,27 +97,5 @@ fn a_line_reads_and_writes_its_places(rt: HostRuntime) -> Result<(), Fail> {
         reading(NodeKind::Last, 0),
     ];
     assert_eq!(rt; graph.nodes.as_slice(), wanted.as_slice());
-    Ok(())
-}
-
-#[test]
-fn answers_the_smallest_graph(rt: HostRuntime) -> Result<(), Fail> {
-    steps_go_along_arcs();
-    walks_are_paths();
-    let name = Name::new(b"p").ok_or("no name")?;
-    let proc = smallest(rt.alloc(), name)?;
-    let graph = build(rt.alloc(), &proc)?;
-    assert_eq!(rt; graph.arcs.len(), 1);
-    assert_eq!(rt;
-        reachable(rt.alloc(), &graph)?.as_slice(),
-        [true, true].as_slice()
-    );
-    let rows = successors(rt.alloc(), &graph)?;
-    let blocked = vec![in rt.alloc(); false; rows.len()]?;
-    let paths = paths_from(rt.alloc(), rows.as_slice(), blocked.as_slice(), 0)?;
-    for path in paths.as_slice() {
-        assert_eq!(rt; path.as_slice().first().copied(), Some(0));
-    }
-    assert_eq!(rt; predecessors(rt.alloc(), &graph)?.len(), 2);
     Ok(())
 }
