@@ -1,7 +1,7 @@
 use Rattle.std.proofs.Common.{◌≡◌, ◌<◌, ℕ, Some, slice_get, arith}
 use Rattle.std.proofs.lemmas.Option.{slice_get_within}
 use Rattle.il_core.specs.declared.line.Place.{Place}
-use Rattle.text_cases.proofs.ways.is_in_range.Goals as goal
+use Rattle.way_cases.proofs.ways.is_in_range.Goals as goal
 
 pub returns : goal.returns
 returns c = λ t.

@@ -1,7 +1,7 @@
 use Rattle.std.proofs.Common.{◌≡◌, ◌<◌, ◌≤ℤ◌, ℕ, length, slice_get, Some}
 use Rattle.il_core.specs.Evaluation.{value_at}
 use Rattle.il_core.specs.declared.line.Place.{Place}
-use Rattle.text_cases.proofs.ways.is_in_range.Given as goal
+use Rattle.way_cases.proofs.ways.is_in_range.Given as goal
 
 -- the values so far are in range
 abbrev pub invariant-loop-index : goal.invariant-loop-index

@@ -1,0 +1,6 @@
+//! Worked cases of slices, tried through their public calls on procedures that are read from texts. Nothing but tests
+//! stands here, so that no layer is proved with its tests.
+#![tactic(auto)]
+
+#[cfg(test)]
+mod slices;
