@@ -1,0 +1,12 @@
+//! Worked cases of the layers above the analyses, tried through their public calls: the text of a report, and the answers
+//! to whole texts. Nothing but tests stands here, so that no layer is proved with its tests.
+#![tactic(auto)]
+
+#[cfg(test)]
+mod answers;
+#[cfg(test)]
+mod reports;
+#[cfg(test)]
+mod sections;
+#[cfg(test)]
+mod written;
