@@ -6,6 +6,7 @@
 #![tactic(auto)]
 
 mod laws;
+mod listing;
 mod threat;
 
 pub use laws::{
@@ -13,4 +14,5 @@ pub use laws::{
     refuted_threats_mean_no_bad_run, short_paths_stay_within, threats_are_listed,
     threats_are_taken_where_met,
 };
+pub use listing::threats;
 pub use threat::{Threat, Verdict};

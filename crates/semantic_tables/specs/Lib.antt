@@ -1,4 +1,5 @@
 pub mod Row
 pub mod Table
+pub mod Fit
 pub mod OneRow
 pub mod Laws

@@ -4,7 +4,9 @@
 #![tactic(auto)]
 
 mod laws;
+mod making;
 mod row;
 
 pub use laws::{inputs_have_one_long_row, inputs_have_one_row, one_table};
+pub use making::{long_rows, table};
 pub use row::{Row, TableOr};
