@@ -4,7 +4,7 @@ use Rattle.std.specs.Prelude.{ℕ, List, All}
 use Rattle.sym_simplify.specs.Literal.{literal_form_of}
 use Rattle.sym_simplify.specs.Easy.{IsKept}
 use Rattle.sym_simplify.specs.Places.{HasLiteralPlacesBelow}
-use Rattle.sym_simplify.specs.declared.literal.LitForm.{LitForm}
+use Rattle.sym_simplify.specs.declared.normal.LitForm.{LitForm}
 use Rattle.semantic_tables.specs.declared.row.Row.{Row}
 use Rattle.semantic_tables.specs.declared.row.TableOr.{TableOr}
 use Rattle.semantic_tables.specs.declared.row.TableOr.TheVariants.{Table, Past}
