@@ -1,3 +1,4 @@
+use compliance::Threat;
 use control_flow::Control;
 use data_use::UseRow;
 use flow_graph::Arc;
@@ -5,6 +6,16 @@ use il_core::{List, Name, Place};
 use info_flow::FlowRow;
 use interval_reduce::Derivation;
 use path_expr::PathReport;
+use semantic_tables::TableOr;
+
+/// The table of a region.
+#[derive(Drop)]
+pub struct RegionTable {
+    /// The first line of the region: 0 or a loop head.
+    pub pc: usize,
+    /// Its rows, or the first limit that the region passes.
+    pub body: TableOr,
+}
 
 /// What is told of a reducible procedure alone.
 #[derive(Drop)]
@@ -15,8 +26,10 @@ pub struct Analyses {
     pub usage: List<UseRow>,
     /// What the final value of each variable rests on, in the order of the places.
     pub flows: List<FlowRow>,
-    /// For a straight procedure, for each place the number of the place whose first value it has at the end.
-    pub row: Option<List<usize>>,
+    /// The table of each region, by their first lines.
+    pub tables: List<RegionTable>,
+    /// The threats of all regions within their size, in order, each with its verdict.
+    pub threats: List<Threat>,
 }
 
 /// The report of one procedure.
@@ -47,21 +60,4 @@ pub struct Report {
     pub title: Name,
     /// The reports of its procedures, in their order.
     pub procs: List<ProcReport>,
-}
-
-/// The sections of a report that are to be written.
-#[derive(Clone, Copy, PartialEq, Eq)]
-pub struct Selection {
-    /// The control structure and its reduction.
-    pub control: bool,
-    /// The use of variables.
-    pub usage: bool,
-    /// The flow of information.
-    pub flow: bool,
-    /// The path expression.
-    pub paths: bool,
-    /// The symbolic table.
-    pub semantic: bool,
-    /// The compliance with the assertions.
-    pub compliance: bool,
 }
