@@ -14,16 +14,20 @@ use Rattle.il_core.specs.Text.{TextProcedure, Text}
 use Rattle.info_flow.specs.Agreement.{Agree}
 use Rattle.info_flow.specs.declared.row.FlowRow.{FlowRow}
 use Rattle.semantic_tables.specs.OneRow.{OneRowEach}
+use Rattle.report.specs.Reported.{IsReportOfFront}
 use Rattle.report.specs.Status.{is_within}
 use Rattle.report.specs.declared.report.RegionTable.{RegionTable}
 use Rattle.report.specs.declared.report.Analyses.{Analyses}
 use Rattle.report.specs.declared.report.ProcReport.{ProcReport}
 use Rattle.report.specs.declared.report.Report.{Report}
 
--- each table of a region within its size has exactly one row for each input of the region, and stepping the lines from the input gives the
--- row's stop and values
+-- each table that is within its size has exactly one row for each input of its region, and stepping the lines from the input gives the row's
+-- stop and values
+abbrev pub HaveOneRow : Procedure → List LoopInfo → List RegionTable → Type 0
+HaveOneRow p loops tables = (t : RegionTable) → IsIn tables t → is_within t.body ≡ true → OneRowEach p loops t.pc t.body
+
 abbrev pub InputsHaveOneRow : Procedure → List LoopInfo → Analyses → Type 0
-InputsHaveOneRow p loops a = (t : RegionTable) → IsIn a.tables t → is_within t.body ≡ true → OneRowEach p loops t.pc t.body
+InputsHaveOneRow p loops a = HaveOneRow p loops a.tables
 
 -- no table is past its size
 abbrev pub EveryTableIsWithin : Analyses → Type 0
@@ -68,3 +72,7 @@ pub record Headline (t : Text) (report : Report) : Type 0 where
   pub one_row : TablesHaveOneRowPerInput t report
   pub safe : CleanProceduresHaveNoBadRun t report
   pub equal_values : EndingRunsHaveEqualValues t report
+
+-- a report is that of the first procedures of a text, and says this of their runs
+abbrev pub IsTold : Text → Report → Type 0
+IsTold t report = IsReportOfFront t report × Headline t report

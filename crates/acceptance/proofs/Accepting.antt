@@ -15,7 +15,7 @@ use Rattle.il_blocks.specs.BlockFault.{HasNoFault, IsRefusedAt}
 use Rattle.il_blocks.specs.BlockLink.{AreLinks, OneLinks}
 use Rattle.il_types.specs.Rules as rules
 use Rattle.il_built.specs.CheckedText.{checked_text, CheckGives}
-use Rattle.malpas_suite.specs.Acceptance.{RefusesStatements, RefusesTokens, IsFirstRefusal, AreAccepted, Say, IsAccepted, Accepts, HasRefusal, StatementsGive, OneAnswer}
+use Rattle.acceptance.specs.Acceptance.{RefusesStatements, RefusesTokens, IsFirstRefusal, AreAccepted, Say, IsAccepted, Accepts, HasRefusal, StatementsGive, OneAnswer}
 
 -- what the check of matched statements answers is what the statements answer
 pub of_links : (stmts : List Placed) (l links : List Link) (r : Result NamedText TextEnd) → l ≡ links → AreLinks stmts links → CheckGives stmts l r → StatementsGive stmts r

@@ -1,7 +1,7 @@
 ghost use Rattle.std.specs.Prelude.{◌≤◌, length, map};
 ghost use Rattle.il_core.specs.Statement.{placed};
 ghost use Rattle.il_syntax.specs.Order.{IsInOrder};
-ghost use Rattle.malpas_suite.specs.Acceptance.{AcceptGives, OneAnswer, StatementsGive, TokensGive};
+ghost use Rattle.acceptance.specs.Acceptance.{AcceptGives, OneAnswer, StatementsGive, TokensGive};
 
 use il_blocks::{match_blocks, one_links};
 use il_built::check;

@@ -1,7 +1,7 @@
 use Rattle.std.proofs.Common.{map}
 use Rattle.il_core.specs.Statement.{placed}
-use Rattle.malpas_suite.proofs.Accepting.{of_links}
-use Rattle.malpas_suite.proofs.acceptance.checked.Goals as goal
+use Rattle.acceptance.proofs.Accepting.{of_links}
+use Rattle.acceptance.proofs.acceptance.checked.Goals as goal
 
 pub returns-in-Ok : goal.returns-in-Ok
 returns-in-Ok c =
