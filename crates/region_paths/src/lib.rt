@@ -5,6 +5,7 @@
 //! its long paths.
 #![tactic(auto)]
 
+mod counting;
 mod laws;
 mod limit;
 mod sizing;
