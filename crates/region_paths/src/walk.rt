@@ -37,7 +37,7 @@ pub fn first_node(proc: &CheckedProc, graph: &TestGraph, line: usize) -> usize
 
 /// The loop of which a line is the head.
 pub fn loop_of(loops: &[LoopInfo], line: usize) -> Option<usize>
-    ensures { MatchOption result (region.is_head loops.now line ≡ false) (λ k. (l : LoopInfo) × (slice_get loops.now k ≡ Some l) × (region.is_head loops.now line ≡ true) × (region.leading_of loops.now line ≡ l.leading)) }
+    ensures { MatchOption result (region.is_head loops.now line ≡ false) (λ k. (l : LoopInfo) × (slice_get loops.now k ≡ Some l) × (region.is_head loops.now line ≡ true) × (region.leading_of loops.now line ≡ l.leading) × (l.head ≡ line)) }
 {
     for at in 0..loops.len() {
         if loops[at].head == line {
