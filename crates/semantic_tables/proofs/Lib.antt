@@ -6,3 +6,4 @@ pub mod Limits
 pub mod Courses
 pub mod Environments
 pub mod Walks
+pub mod Made

@@ -212,10 +212,12 @@ pub prefix_added : (n : ℕ) (nodes : List TermNode) (old new : Prefix) (s : Sid
 prefix_added n nodes old new s h a e m =
     let f = comparison_form (comparison_at nodes s) in
     let forms : prefix_forms new ≡ prefix_forms old ++ f ∷ [] =
-    ap (map literal_form_of) m.last ∙ map-append literal_form_of old.literals.items (m.literal ∷ []) ∙ ap (λ (x : LiteralForm). prefix_forms old ++ x ∷ []) m.form in
-    (subst (AreForms n nodes new.sides.items) (sym forms)
-    (subst (λ (x : List Sides). AreForms n nodes x (prefix_forms old ++ f ∷ [])) (sym e)
-    (forms_more n nodes old.sides.items (prefix_forms old) s f h (record { sides = a; form = refl; kept = m.kept }))), forms)
+    ap (map literal_form_of) m.last ∙ map-append literal_form_of old.literals.items (m.literal ∷ []) ∙ ap (λ (x : LiteralForm). prefix_forms old ++ x ∷ []) m.form in (
+      subst (AreForms n nodes new.sides.items) (sym forms)
+          (subst (λ (x : List Sides). AreForms n nodes x (prefix_forms old ++ f ∷ [])) (sym e)
+          (forms_more n nodes old.sides.items (prefix_forms old) s f h (record { sides = a; form = refl; kept = m.kept }))),
+      forms,
+    )
 
 pub prefix_same : (n : ℕ) (nodes : List TermNode) (old new : Prefix) → IsSamePrefix old new → IsPrefix n nodes old → IsPrefix n nodes new
 prefix_same n nodes old new same h =

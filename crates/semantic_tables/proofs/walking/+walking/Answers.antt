@@ -57,9 +57,25 @@ walk-walk_side-requires t c =
     let stands = subst (Stands g c.in-Some-Test.met c.args.course) (sym same)
     (stands_met g c.args.id c.args.course terms c.requires.ground c.in-Some-Test.literal c.in-Some-Test.met c.in-Some-Test.unmet node c.requires.stands) in
     let sides = sides_new n old new c.args.env.now c.in_ok-sides-in-Some-Test.sides (comparison_of c.in-Some-Test.literal) c.requires.env c.in_ok-sides-in-Some-Test.ensures.left
-    c.in_ok-sides-in-Some-Test.ensures.right c.in_ok-sides-in-Some-Test.ensures.sides k.0 in
-    (omega (arith, less, c.decreases), (c.requires.ground, (c.requires.course, (stands, (env_kept n old new c.args.env.now kept c.requires.env, (sides,
-    (forms_kept n old new c.args.prefix.now.sides.items (prefix_forms c.args.prefix.now) kept c.requires.prefix, c.requires.sound)))))))
+    c.in_ok-sides-in-Some-Test.ensures.right c.in_ok-sides-in-Some-Test.ensures.sides k.0 in (
+      omega (arith, less, c.decreases),
+      (
+        c.requires.ground,
+        (
+          c.requires.course,
+          (
+            stands,
+            (
+              env_kept n old new c.args.env.now kept c.requires.env,
+              (
+                sides,
+                (forms_kept n old new c.args.prefix.now.sides.items (prefix_forms c.args.prefix.now) kept c.requires.prefix, c.requires.sound),
+              ),
+            ),
+          ),
+        ),
+      ),
+    )
 
 pub walk-walk_side-requires-in-Some-Test : goal.walk-walk_side-requires-in-Some-Test
 walk-walk_side-requires-in-Some-Test t c =
@@ -122,9 +138,22 @@ walk-walk-requires t c =
     let same : terms_of new c.exchange-was.new.env ≡ slice_set terms place (substituted terms (tree_of term)) =
     ap (terms_of new) after ∙ set.1 ∙ ap (λ (ts : List Tree). slice_set ts place (substituted terms (tree_of term))) (terms_kept old new env kept c.requires.env.within) in
     let stands = subst (Stands g c.in-Some-Assign.then c.args.course) (sym same)
-    (stands_then g c.args.id c.args.course terms c.requires.ground place term c.in-Some-Assign.then node c.requires.stands) in
-    (omega (arith, less, c.decreases), (c.requires.ground, (c.requires.course, (stands, (subst (IsEnvironment n new) (sym after) set.0,
-    (forms_kept n old new c.args.prefix.now.sides.items (prefix_forms c.args.prefix.now) kept c.requires.prefix, (c.requires.some, c.requires.sound)))))))
+    (stands_then g c.args.id c.args.course terms c.requires.ground place term c.in-Some-Assign.then node c.requires.stands) in (
+      omega (arith, less, c.decreases),
+      (
+        c.requires.ground,
+        (
+          c.requires.course,
+          (
+            stands,
+            (
+              subst (IsEnvironment n new) (sym after) set.0,
+              (forms_kept n old new c.args.prefix.now.sides.items (prefix_forms c.args.prefix.now) kept c.requires.prefix, (c.requires.some, c.requires.sound)),
+            ),
+          ),
+        ),
+      ),
+    )
 
 pub walk-exchange-requires : goal.walk-exchange-requires
 walk-exchange-requires t c =
@@ -268,9 +297,19 @@ walk_side-walk-requires t c =
     let more = prefix_added n old c.args.prefix.now c.add.new.self c.args.sides c.requires.prefix c.requires.sides c.in_ok-add.ensures.sides c.in_ok-add.ensures.literals in
     let some : LeftOut g (prefix_forms c.add.new.self) → ⊥ = λ o.
     if_true c.in_ok-is_open.field-0 (LeftOut g (map literal_form_of c.deref.result.now) → ⊥) (LeftOut g (map literal_form_of c.deref.result.now)) c.in_ok-is_open.ensures c.if-branch.true
-    (subst (λ (ls : List LitForm). LeftOut g (map literal_form_of ls)) (sym c.deref.ensures.value) o) in
-    (omega (arith, c.decreases), (c.requires.ground, (c.requires.course, (subst (λ (ts : List TermNode). Stands g c.args.to c.args.course (terms_of ts env)) same c.requires.stands,
-    (subst (λ (ts : List TermNode). IsEnvironment n ts env) same c.requires.env, (subst (λ (ts : List TermNode). IsPrefix n ts c.add.new.self) same more.0, (some, c.requires.sound)))))))
+    (subst (λ (ls : List LitForm). LeftOut g (map literal_form_of ls)) (sym c.deref.ensures.value) o) in (
+      omega (arith, c.decreases),
+      (
+        c.requires.ground,
+        (
+          c.requires.course,
+          (
+            subst (λ (ts : List TermNode). Stands g c.args.to c.args.course (terms_of ts env)) same c.requires.stands,
+            (subst (λ (ts : List TermNode). IsEnvironment n ts env) same c.requires.env, (subst (λ (ts : List TermNode). IsPrefix n ts c.add.new.self) same more.0, (some, c.requires.sound))),
+          ),
+        ),
+      ),
+    )
 
 pub walk_side-returns-clause-rows : goal.walk_side-returns-clause-rows
 walk_side-returns-clause-rows t c = λ d u.
