@@ -61,13 +61,15 @@ within_set nodes env k id w l = record { each = by_place env k w.each }
 pub env_set : (n : ℕ) (nodes : List TermNode) (env : List TermId) (k : ℕ) (id : TermId) (t : Tree) → IsEnvironment n nodes env → id.index < length nodes → tree_at nodes id ≡ t
     → HasPlacesBelow n t → IsSmall t → IsEnvironment n nodes (slice_set env k id) × (terms_of nodes (slice_set env k id) ≡ slice_set (terms_of nodes env) k t)
 env_set n nodes env k id t e l same p s =
-    let terms : terms_of nodes (slice_set env k id) ≡ slice_set (terms_of nodes env) k t = map-set (tree_at nodes) env k id ∙ ap (slice_set (terms_of nodes env) k) same in
-    (record {
-      within = within_set nodes env k id e.within l;
-      size = length-set env k id ∙ e.size;
-      places = subst (HavePlacesBelow n) (sym terms) (places_set n (terms_of nodes env) k t e.places p);
-      small = subst AreSmall (sym terms) (small_set (terms_of nodes env) k t e.small s);
-    }, terms)
+    let terms : terms_of nodes (slice_set env k id) ≡ slice_set (terms_of nodes env) k t = map-set (tree_at nodes) env k id ∙ ap (slice_set (terms_of nodes env) k) same in (
+      record {
+        within = within_set nodes env k id e.within l;
+        size = length-set env k id ∙ e.size;
+        places = subst (HavePlacesBelow n) (sym terms) (places_set n (terms_of nodes env) k t e.places p);
+        small = subst AreSmall (sym terms) (small_set (terms_of nodes env) k t e.small s);
+      },
+      terms,
+    )
 
 -- a number that is put back
 pub put_back : (env : List TermId) (place : ℕ) (id was : TermId) → slice_get env place ≡ Some was → slice_set (slice_set env place id) place was ≡ env
@@ -80,11 +82,13 @@ comparison_kept old new s k c = rw (tree_kept old new s.left k c.left, tree_kept
 pub sides_kept : (n : ℕ) (old new : List TermNode) (s : Sides) → Keeps old new → AreSides n old s → AreSides n new s × (comparison_at new s ≡ comparison_at old s)
 sides_kept n old new s k a =
     let same = comparison_kept old new s k a.compared in
-    let far = keeps_le old new k in
-    (record {
-      compared = record { left = omega (arith, a.compared.left, far); right = omega (arith, a.compared.right, far); small = subst ComparesSmall (sym same) a.compared.small };
-      places = subst (ComparesPlacesBelow n) (sym same) a.places;
-    }, same)
+    let far = keeps_le old new k in (
+      record {
+        compared = record { left = omega (arith, a.compared.left, far); right = omega (arith, a.compared.right, far); small = subst ComparesSmall (sym same) a.compared.small };
+        places = subst (ComparesPlacesBelow n) (sym same) a.places;
+      },
+      same,
+    )
 
 pub forms_kept : (n : ℕ) (old new : List TermNode) (sides : List Sides) (fs : List LiteralForm) → Keeps old new → AreForms n old sides fs → AreForms n new sides fs
 forms_kept n old new [] [] k h = tt

@@ -5,3 +5,5 @@ pub mod Kept
 pub mod Limits
 pub mod Courses
 pub mod Environments
+pub mod Walks
+pub mod Made

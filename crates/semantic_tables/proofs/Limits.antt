@@ -38,10 +38,11 @@ in-map f (y ∷ xs) x (inr i) = inr (in-map f xs x i)
 -- a tree has a path
 some_path : (t : PathTree) (terms : List Tree) → (r : RegionPath) × IsIn (paths_down t terms) r
 some_path (fork c met unmet) terms =
-    let p = some_path met terms in
-    (begun (true ∷ []) (comparison_under terms c ∷ []) [] p.0,
-    in-left (map (begun (true ∷ []) (comparison_under terms c ∷ []) []) (paths_down met terms)) (map (begun (false ∷ []) (comparison_under terms (denied c) ∷ []) []) (paths_down unmet terms)) _
-    (in-map (begun (true ∷ []) (comparison_under terms c ∷ []) []) (paths_down met terms) p.0 p.1))
+    let p = some_path met terms in (
+      begun (true ∷ []) (comparison_under terms c ∷ []) [] p.0,
+      in-left (map (begun (true ∷ []) (comparison_under terms c ∷ []) []) (paths_down met terms)) (map (begun (false ∷ []) (comparison_under terms (denied c) ∷ []) []) (paths_down unmet terms)) _
+          (in-map (begun (true ∷ []) (comparison_under terms c ∷ []) []) (paths_down met terms) p.0 p.1),
+    )
 some_path (change c rest) terms =
     let p = some_path rest (changed c terms) in
     (begun [] [] (assigned_under terms c) p.0, in-map (begun [] [] (assigned_under terms c)) (paths_down rest (changed c terms)) p.0 p.1)
@@ -70,11 +71,14 @@ sides_depth a b k h = (omega (arith, h), omega (arith, h))
 
 -- the comparison at the beginning of a small path is small, and so is what follows
 small_begun : (b : Bool) (c : Comparison) (r : RegionPath) → IsSmallPath (begun (b ∷ []) (c ∷ []) [] r) → (comparison_weight c < 2 ^ 100) × (comparison_depth c ≤ 1000) × IsSmallPath r
-small_begun b c r h =
-    (less_first (comparison_weight c) (greatest_by comparison_weight r.row.literals) (greatest_by weight r.row.assigned) (2 ^ 100) h.0,
-    least_first (comparison_depth c) (greatest_by comparison_depth r.row.literals) (greatest_by depth r.row.assigned) 1000 h.1,
-    (less_rest (comparison_weight c) (greatest_by comparison_weight r.row.literals) (greatest_by weight r.row.assigned) (2 ^ 100) h.0,
-    least_rest (comparison_depth c) (greatest_by comparison_depth r.row.literals) (greatest_by depth r.row.assigned) 1000 h.1))
+small_begun b c r h = (
+  less_first (comparison_weight c) (greatest_by comparison_weight r.row.literals) (greatest_by weight r.row.assigned) (2 ^ 100) h.0,
+  least_first (comparison_depth c) (greatest_by comparison_depth r.row.literals) (greatest_by depth r.row.assigned) 1000 h.1,
+  (
+    less_rest (comparison_weight c) (greatest_by comparison_weight r.row.literals) (greatest_by weight r.row.assigned) (2 ^ 100) h.0,
+    least_rest (comparison_depth c) (greatest_by comparison_depth r.row.literals) (greatest_by depth r.row.assigned) 1000 h.1,
+  ),
+)
 
 small_behind : (terms : List Tree) (c : Option Change) (r : RegionPath) → IsSmallPath (begun [] [] (assigned_under terms c) r) → AssignsSmall terms c × IsSmallPath r
 small_behind terms None r h = (tt, h)

@@ -18,7 +18,7 @@ use crate::environment::{exchange, put_under, sides_under};
 use crate::prefix::{Prefix, Sides, row_at};
 use crate::row::Row;
 use il_core::{List, NoMemory, Stop};
-use path_inputs::least_input;
+use path_inputs::{least_input, refuted_stays_refuted};
 use sym_simplify::{Forms, LitForm};
 use sym_terms::TermId;
 use test_graph::TestNode;
@@ -87,6 +87,7 @@ fn walk_side(
     ensures same { IfOk result (λ _. IsSamePrefix prefix.old prefix.new) }
     ensures sound { IfOk result (λ _. All (HasSoundLiterals (length ground.entry.proc.now.places)) rows.new) }
 {
+    refuted_stays_refuted();
     prefix.add(forms, met, sides)?;
     if is_open(ground, &prefix.literals)? {
         walk(ground, to, course, forms, env, prefix, rows)?;
