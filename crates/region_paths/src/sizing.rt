@@ -68,17 +68,19 @@ pub fn size(
     }
     let mut sizes = own_sizes(alloc, places)?;
     let first = first_node(proc, graph, pc);
-    let tally = follow(
+    let mut tally = Tally::empty();
+    let within = follow(
         proc,
         graph,
         control.loops.as_slice(),
         first,
         proc.lines().len(),
         &mut sizes,
-        Tally::empty(),
+        &mut tally,
     );
-    match tally {
-        Some(tally) => Ok(tally.limit()),
-        None => Ok(Some(Limit::Rows)),
+    if within {
+        Ok(tally.limit())
+    } else {
+        Ok(Some(Limit::Rows))
     }
 }
