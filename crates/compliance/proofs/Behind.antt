@@ -1,5 +1,5 @@
 -- What is left of a path behind the way that it takes through a line, told from the nodes of the line's decisions.
-use Rattle.std.proofs.Common.{◌≡◌, refl, sym, ap, ◌∙◌, subst, ℕ, ◌-◌, Bool, true, false, Option, Some, None, List, [], ◌∷◌, length, slice_get, take, drop, arith, take_all}
+use Rattle.std.proofs.Common.{◌≡◌, refl, sym, ap, ◌∙◌, ℕ, ◌-◌, Bool, true, false, Option, Some, None, List, [], ◌∷◌, length, slice_get, take, drop, arith, take_all}
 use Rattle.std.specs.Prelude.{if◌then◌else◌}
 use Rattle.il_core.specs.Procedure.{Procedure}
 use Rattle.il_core.specs.declared.line.Halt.{Halt}
@@ -7,7 +7,7 @@ use Rattle.il_core.specs.declared.line.Next.{Next}
 use Rattle.il_core.specs.declared.line.Next.TheVariants as next
 use Rattle.sym_terms.specs.declared.term.Term.{Term}
 use Rattle.sym_terms.specs.declared.term.Literal.{Literal}
-use Rattle.test_graph.specs.Decision.{Change, Decision, ask, done}
+use Rattle.test_graph.specs.Decision.{Change, Decision, done}
 use Rattle.test_graph.specs.Lowered.{Unfolds, IsLowered}
 use Rattle.test_graph.specs.declared.graph.TestNode.TheVariants.{Test, Assign, AtLine, Stop}
 use Rattle.test_graph.specs.declared.graph.TestGraph.{TestGraph}

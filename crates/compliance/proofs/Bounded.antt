@@ -1,6 +1,6 @@
 -- Steps that take a path of a region are few: no line comes up twice before the first head, and the leading assertions behind it follow one
 -- another.
-use Rattle.std.proofs.Common.{◌≡◌, inl, inr, refl, sym, ap, ◌∙◌, subst, ℕ, zero, suc, ◌+◌, ◌*◌, ◌<◌, ◌≤◌, Bool, true, false, Some, List, [], ◌∷◌, length, slice_get, arith}
+use Rattle.std.proofs.Common.{◌≡◌, inl, inr, refl, sym, ap, ◌∙◌, subst, ℕ, zero, suc, ◌+◌, ◌*◌, ◌<◌, ◌≤◌, Bool, true, false, Some, List, [], ◌∷◌, length, arith}
 use Rattle.std.proofs.lemmas.Option.{slice_get_within}
 use Rattle.il_core.specs.Evaluation.{State}
 use Rattle.il_core.specs.LineGraph.{IsIn, HasArc, IsPath}
@@ -21,6 +21,7 @@ use Rattle.region_paths.specs.Region.{AreRegions, head_marks, is_head, leading_o
 use Rattle.region_paths.specs.Chain.{IsLongChain, Onward, Leads, Passes}
 use Rattle.region_paths.specs.PlainRow.{PlainRow}
 use Rattle.region_paths.specs.Listing.{RegionPath, IsLongPath}
+use Rattle.region_paths.specs.Walk.{AreLines}
 use Rattle.region_paths.specs.Laws.{BeginsRegion}
 use Rattle.region_paths.proofs.Cuts.{heads_cut}
 use Rattle.region_paths.proofs.Marks.{mark_of, length-head_marks}
@@ -37,19 +38,20 @@ follow_few : (a m : ℕ) (b : ℕ) (xs : List ℕ) → FollowOn a (b ∷ xs) →
 follow_few a m b [] f low = let l = low b (inl refl) in let e = f.0 in omega (arith, l, e)
 follow_few a m b (c ∷ xs) f low = let k = follow_few (a + 1) m c xs f.1 (λ q i. low q (inr i)) in omega (arith, k)
 
--- the leading assertions of a head are at most as many as the lines
+-- the leading assertions of a head are lines of the procedure
+pub leading_inside : (p : Procedure) (loops : List LoopInfo) (q : ℕ) → AreRegions p loops → AreLines p (leading_of loops q)
+leading_inside p loops q regions = λ x i. let k = leading_quiet p loops q x regions i in slice_get_within p.lines x k.instruction k.there
+
+-- they are at most as many as the lines
 leading_few : (p : Procedure) (loops : List LoopInfo) (q : ℕ) → AreRegions p loops → length (leading_of loops q) ≤ length p.lines
 leading_few p loops q regions = by_lines (leading_of loops q) refl
   where
-    inside : (x : ℕ) → IsIn (leading_of loops q) x → x < length p.lines
-    inside x i = let k = leading_quiet p loops q x regions i in slice_get_within p.lines x k.instruction k.there
-
     by_lines : (lines : List ℕ) → leading_of loops q ≡ lines → length lines ≤ length p.lines
     by_lines [] e = omega arith
     by_lines (a ∷ lines) e =
         let i : IsIn (leading_of loops q) a = subst (λ x. IsIn x a) (sym e) (inl refl) in
         let t = leads_from (graph_of p).nodes q a (leading_of loops q) (leading_lists p loops q a regions i) i in
-        let k = follow_few t.start (length p.lines) a lines (subst (FollowOn t.start) e t.follow) (λ x j. inside x (subst (λ xs. IsIn xs x) (sym e) j)) in
+        let k = follow_few t.start (length p.lines) a lines (subst (FollowOn t.start) e t.follow) (λ x j. leading_inside p loops q regions x (subst (λ xs. IsIn xs x) (sym e) j)) in
         omega (arith, k)
 
 -- through leading assertions that follow one another
@@ -63,8 +65,8 @@ leads_few p head a (b ∷ lines) (w ∷ ws) (suc n) s h law c r k follow l t =
     let m : Leads p head lines ws (stop.Halted h) = subst (λ x. Passes x ws (stop.Halted h) (Leads p head lines ws (stop.Halted h))) g.next l.1 in
     let there : g.line ≡ a + 1 = line_behind p n b s w ws h g (k b (inl refl)) ∙ ap (λ y. y + 1) follow.0 in
     let few =
-        leads_few p head (a + 1) lines ws n (state_behind w.change s) h law c (behind_in_range p b s w c r g.stepped) (λ q i. k q (inr i)) follow.1 m
-        (subst (λ x. TakesDecisions p n x (state_behind w.change s) (path_of ws) h) there g.takes) in
+    leads_few p head (a + 1) lines ws n (state_behind w.change s) h law c (behind_in_range p b s w c r g.stepped) (λ q i. k q (inr i)) follow.1 m
+    (subst (λ x. TakesDecisions p n x (state_behind w.change s) (path_of ws) h) there g.takes) in
     omega (arith, few)
 
 -- from a head on

@@ -1,12 +1,12 @@
 -- The verdict of a threat, told from its normal row.
-use Rattle.std.proofs.Common.{◌≡◌, refl, sym, ap, ◌∙◌, subst, ℕ, ◌+◌, ◌*◌, ◌<◌, Bool, true, false, List, map, length}
+use Rattle.std.proofs.Common.{◌≡◌, sym, ap, ◌∙◌, subst, ℕ, ◌+◌, ◌*◌, Bool, true, false, List, map, length}
 use Rattle.std.specs.Prelude.{IsTrue, ◌↔◌}
 use Rattle.il_core.specs.Evaluation.{State}
 use Rattle.il_core.specs.Procedure.{Procedure}
 use Rattle.il_core.specs.declared.line.Halt.{Halt}
 use Rattle.il_core.specs.declared.line.Place.{Place}
 use Rattle.il_core.specs.declared.line.Stop.TheVariants as stop
-use Rattle.sym_simplify.specs.Literal.{LiteralForm, literal_form_of}
+use Rattle.sym_simplify.specs.Literal.{literal_form_of}
 use Rattle.sym_simplify.specs.declared.normal.LitForm.{LitForm}
 use Rattle.region_paths.specs.Listing.{RegionPath}
 use Rattle.path_inputs.specs.Core.{IsLoose}
@@ -16,7 +16,6 @@ use Rattle.semantic_tables.specs.declared.row.Row.{Row}
 use Rattle.compliance.specs.Laws.{ThreatsAreTakenSoon, OpenThreatsAreLoose}
 use Rattle.compliance.specs.Behind.{IsThreatRow}
 use Rattle.compliance.specs.Verdict.{TakesDecisions, TakesPath, IsFirstLoose, HasVerdict}
-use Rattle.compliance.specs.declared.threat.Verdict.{Verdict}
 use Rattle.compliance.specs.declared.threat.Verdict.TheVariants.{Refuted, Shown, Open}
 use Rattle.compliance.proofs.Stepped.{TakesWithin}
 

@@ -16,3 +16,6 @@ pub mod Loose
 pub mod Stepped
 pub mod Bounded
 pub mod Judged
+pub mod Told
+pub mod BadPaths
+pub mod Regions

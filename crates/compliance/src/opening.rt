@@ -65,12 +65,7 @@ fn ends_within(proc: &CheckedProc, graph: &TestGraph, lines: &[usize], path: &[b
 }
 
 /// The halt of a row that halts badly behind the leading assertions of its region.
-pub fn bad_halt(
-    proc: &CheckedProc,
-    graph: &TestGraph,
-    leading: &[usize],
-    row: &Row,
-) -> Option<Halt>
+pub fn bad_halt(proc: &CheckedProc, graph: &TestGraph, leading: &[usize], row: &Row) -> Option<Halt>
     requires lowered { IsLowered (procedure_of proc.now) graph.now }
     requires leading { AreLines (procedure_of proc.now) leading.now }
     ensures { result ≡ behind.bad_halt (procedure_of proc.now) leading.now row.now.stop row.now.path }

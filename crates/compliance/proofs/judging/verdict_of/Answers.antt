@@ -1,4 +1,4 @@
-use Rattle.std.proofs.Common.{◌≡◌, sym, ap, ◌∙◌, subst, ℕ, ◌+◌, ◌*◌, true, false, map, length, arith}
+use Rattle.std.proofs.Common.{◌≡◌, sym, ap, ◌∙◌, subst, ℕ, ◌+◌, ◌*◌, map, length, arith}
 use Rattle.std.proofs.lemmas.List.{length-map}
 use Rattle.il_core.specs.Procedure.{instruction_of}
 use Rattle.il_core.specs.Checked.{procedure_of}
@@ -32,9 +32,9 @@ first_loose-requires c =
     let room : 2 * length c.args.proc.now.lines + 2 ≡ 2 * length (procedure_of c.args.proc.now).lines + 2 = ap (λ n. 2 * n + 2) (sym (length-map c.args.proc.now.lines instruction_of)) in
     let least : IsLeastInput c.as_slice.result.now c.args.pc (map literal_form_of c.as_slice-literals.result.now) c.in-Some.input = rw c.in-Some.is at c.in_ok-input.ensures in
     let k =
-        open_threat (procedure_of c.args.proc.now) c.args.pc c.args.row.now c.args.halt c.in-Some.input c.as_slice.result.now c.as_slice-literals.result.now c.as_slice-2.result.now
-        c.as_slice-3.result.now (2 * length c.args.proc.now.lines + 2) c.in_ok-is_taken.field-0 c.threats_are_taken_soon.ensures c.open_threats_are_loose.ensures c.requires.threat c.requires.stop
-        (c.as_slice.ensures ∙ c.places.ensures.value) c.as_slice-literals.ensures c.as_slice-2.ensures c.as_slice-3.ensures room least c.in_ok-is_taken.ensures c.if-branch.false in
+    open_threat (procedure_of c.args.proc.now) c.args.pc c.args.row.now c.args.halt c.in-Some.input c.as_slice.result.now c.as_slice-literals.result.now c.as_slice-2.result.now
+    c.as_slice-3.result.now (2 * length c.args.proc.now.lines + 2) c.in_ok-is_taken.field-0 c.threats_are_taken_soon.ensures c.open_threats_are_loose.ensures c.requires.threat c.requires.stop
+    (c.as_slice.ensures ∙ c.places.ensures.value) c.as_slice-literals.ensures c.as_slice-2.ensures c.as_slice-3.ensures room least c.in_ok-is_taken.ensures c.if-branch.false in
     subst (λ x. (i : ℕ) × IsLoose (map literal_form_of x) i) (sym c.as_slice-literals.ensures) k.stays.loose
 
 pub returns : goal.returns
@@ -42,8 +42,8 @@ returns c = λ r e.
     let room : 2 * length c.args.proc.now.lines + 2 ≡ 2 * length (procedure_of c.args.proc.now).lines + 2 = ap (λ n. 2 * n + 2) (sym (length-map c.args.proc.now.lines instruction_of)) in
     let least : IsLeastInput c.as_slice.result.now c.args.pc (map literal_form_of c.as_slice-literals.result.now) c.in-Some.input = rw c.in-Some.is at c.in_ok-input.ensures in
     let k =
-        open_threat (procedure_of c.args.proc.now) c.args.pc c.args.row.now c.args.halt c.in-Some.input c.as_slice.result.now c.as_slice-literals.result.now c.as_slice-2.result.now
-        c.as_slice-3.result.now (2 * length c.args.proc.now.lines + 2) c.in_ok-is_taken.field-0 c.threats_are_taken_soon.ensures c.open_threats_are_loose.ensures c.requires.threat c.requires.stop
-        (c.as_slice.ensures ∙ c.places.ensures.value) c.as_slice-literals.ensures c.as_slice-2.ensures c.as_slice-3.ensures room least c.in_ok-is_taken.ensures c.if-branch.false in
+    open_threat (procedure_of c.args.proc.now) c.args.pc c.args.row.now c.args.halt c.in-Some.input c.as_slice.result.now c.as_slice-literals.result.now c.as_slice-2.result.now
+    c.as_slice-3.result.now (2 * length c.args.proc.now.lines + 2) c.in_ok-is_taken.field-0 c.threats_are_taken_soon.ensures c.open_threats_are_loose.ensures c.requires.threat c.requires.stop
+    (c.as_slice.ensures ∙ c.places.ensures.value) c.as_slice-literals.ensures c.as_slice-2.ensures c.as_slice-3.ensures room least c.in_ok-is_taken.ensures c.if-branch.false in
     let first = subst (λ x. IsFirstLoose (map literal_form_of x) c.first_loose.result) c.as_slice-literals.ensures c.first_loose.ensures in
     open_at (procedure_of c.args.proc.now) c.args.pc c.args.row.now c.in-Some.input c.first_loose.result r k.stays k.least first e

@@ -1,4 +1,4 @@
-use Rattle.std.proofs.Common.{◌≡◌, sym, ◌∙◌, subst, ℕ, ◌<◌, ◌-◌, Bool, true, false, Some, None, MatchOption, ◌∷◌, length, slice_get, take, drop, arith}
+use Rattle.std.proofs.Common.{◌≡◌, sym, subst, ℕ, ◌<◌, ◌-◌, Bool, true, false, Some, None, MatchOption, length, slice_get, take, drop, arith}
 use Rattle.std.specs.Prelude.{if◌then◌else◌}
 use Rattle.test_graph.specs.Lowered.{Unfolds}
 use Rattle.test_graph.specs.declared.graph.TestNode.TheVariants.{Test, Assign, AtLine, Stop}
@@ -29,8 +29,8 @@ returns-in-Some t c = λ d u.
     let v = c.in-Some-Test.ensures.value in
     let node : slice_get c.args.graph.now.nodes c.args.id ≡ Some (Test c.in-Some-Test.field-0-0 c.in-Some-Test.met c.in-Some-Test.unmet) = cc (v, c.in-Some-Test.field-0-is) in
     let k =
-        left_at_test c.requires.lowered.0 c.args.graph.now c.args.id c.in-Some-Test.field-0-0 c.in-Some-Test.met c.in-Some-Test.unmet d c.in-Some.first.now c.args.path.now
-        (take (length c.args.path.now - 1) (drop 1 c.args.path.now)) c.requires.lowered.1 node u (first_of c.args.path.now c.in-Some.first.now c.in-Some.ensures.value) in
+    left_at_test c.requires.lowered.0 c.args.graph.now c.args.id c.in-Some-Test.field-0-0 c.in-Some-Test.met c.in-Some-Test.unmet d c.in-Some.first.now c.args.path.now
+    (take (length c.args.path.now - 1) (drop 1 c.args.path.now)) c.requires.lowered.1 node u (first_of c.args.path.now c.in-Some.first.now c.in-Some.ensures.value) in
     subst (λ x. MatchOption c.left_behind.result (x ≡ None) (λ left. x ≡ Some left.now)) (sym k.same)
     (c.left_behind.ensures k.decision (subst (λ n. Unfolds c.args.graph.now.nodes c.args.graph.now.entries n k.decision) (sym c.side.ensures) k.unfolds))
 
@@ -46,8 +46,8 @@ returns-in-Some-Assign t c = λ d u.
     let v = c.in-Some-Assign.ensures.value in
     let node : slice_get c.args.graph.now.nodes c.args.id ≡ Some (Assign c.in-Some-Assign.field-0-0 c.in-Some-Assign.field-0-1 c.in-Some-Assign.then) = cc (v, c.in-Some-Assign.field-0-is) in
     let k =
-        left_at_assign c.requires.lowered.0 c.args.graph.now c.args.id c.in-Some-Assign.field-0-0 c.in-Some-Assign.field-0-1 c.in-Some-Assign.then d c.args.path.now
-        c.requires.lowered.1 node u in
+    left_at_assign c.requires.lowered.0 c.args.graph.now c.args.id c.in-Some-Assign.field-0-0 c.in-Some-Assign.field-0-1 c.in-Some-Assign.then d c.args.path.now
+    c.requires.lowered.1 node u in
     subst (λ x. MatchOption c.left_behind-in-Some-Assign.result (x ≡ None) (λ left. x ≡ Some left.now)) (sym k.same) (c.left_behind-in-Some-Assign.ensures k.decision k.unfolds)
 
 pub returns-in-Some-AtLine : goal.returns-in-Some-AtLine

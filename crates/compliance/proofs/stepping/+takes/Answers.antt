@@ -1,4 +1,4 @@
-use Rattle.std.proofs.Common.{◌≡◌, sym, ◌∙◌, ◌<◌, ◌-◌, ℕ, length, take, drop, eqb-true, arith}
+use Rattle.std.proofs.Common.{sym, ◌∙◌, ◌-◌, length, take, drop, eqb-true, arith}
 use Rattle.std.proofs.lemmas.List.{length-map, nil_from_length}
 use Rattle.il_core.specs.Procedure.{instruction_of}
 use Rattle.il_core.specs.Checked.{procedure_of}
@@ -22,6 +22,6 @@ pub returns-then-is_empty : goal.returns-then-is_empty
 returns-then-is_empty t c =
     let none = nil_from_length (take (length c.args.path.now - c.in-Some.taken.used) (drop c.in-Some.taken.used c.args.path.now)) (eqb-true _ 0 (sym c.is_empty.ensures ∙ c.if-is_empty.true)) in
     let k =
-        takes_end (procedure_of c.args.proc.now) c.args.room c.args.pc c.args.vals.now c.args.path.now c.in-Some.taken c.in-Halted.end c.args.halt c.step_along.new.vals c.if-room-eq0.false
-        c.in-Some.ensures.taken c.in-Halted.is none in
+    takes_end (procedure_of c.args.proc.now) c.args.room c.args.pc c.args.vals.now c.args.path.now c.in-Some.taken c.in-Halted.end c.args.halt c.step_along.new.vals c.if-room-eq0.false
+    c.in-Some.ensures.taken c.in-Halted.is none in
     (λ e. k.0 (c.are_same.ensures.0 e), λ t. c.are_same.ensures.1 (k.1 t))
