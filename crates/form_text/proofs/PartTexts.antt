@@ -8,7 +8,7 @@ use Rattle.sym_simplify.specs.FormText.{is_bare, form_text, later_text}
 use Rattle.sym_simplify.specs.Held.{factor_of, form_of, parts_before}
 use Rattle.sym_simplify.proofs.HeldParts.{held}
 use Rattle.form_text.specs.Lists.{numbered}
-use Rattle.form_text.specs.Parts.{part_text, end_text}
+use Rattle.form_text.specs.Parts.{part_text, end_text, is_place}
 
 suc-no_zero : (k : ℕ) → (suc k == 0) ≡ false
 suc-no_zero k = grind (arith, nat_tests)
@@ -41,6 +41,35 @@ one-bare n ps p e i l m = one-part (out-Normal n).parts _ p (rw (← e) i) (rw (
 
 pub more-bare : (n : Normal) (ps : List Part) → ps ≡ (out-Normal n).parts → 2 ≤ length ps → false ≡ is_bare (form_of n)
 more-bare n ps e h = more-parts (out-Normal n).parts _ (rw (← e) h) ∙ sym (ap is_bare (held n))
+
+no-place : (at : ℕ) (ps : List Part) (c : ℤ) → length ps < 1 → false ≡ is_place at (parts_before ps (constant c))
+no-place at [] c h = refl
+no-place at (p ∷ ps) c h = absurd (omega arith)
+
+one-place : (at : ℕ) (ps : List Part) (c : ℤ) (p : Part) → p ≡ get_or ps 0 p → 1 ≤ length ps → length ps < 2
+    → is_place at (part p.coefficient (factor_of p.atom) (constant c)) ≡ is_place at (parts_before ps (constant c))
+one-place at [] c p i l m = absurd (omega arith)
+one-place at (q ∷ []) c p i l m = ap (λ (r : Part). is_place at (part r.coefficient (factor_of r.atom) (constant c))) i
+one-place at (q ∷ r ∷ ps) c p i l m = absurd (omega arith)
+
+wide-place : (at : ℕ) (c : ℤ) (a : Factor) (d : ℤ) (b : Factor) (n : Form) → false ≡ is_place at (part c a (part d b n))
+wide-place at c (place p) d b n = refl
+wide-place at c (pair k l m) d b n = refl
+
+more-place : (at : ℕ) (ps : List Part) (c : ℤ) → 2 ≤ length ps → false ≡ is_place at (parts_before ps (constant c))
+more-place at [] c h = absurd (omega arith)
+more-place at (p ∷ []) c h = absurd (omega arith)
+more-place at (p ∷ q ∷ ps) c h = wide-place at p.coefficient (factor_of p.atom) q.coefficient (factor_of q.atom) (parts_before ps (constant c))
+
+pub none-place : (at : ℕ) (n : Normal) (ps : List Part) → ps ≡ (out-Normal n).parts → length ps < 1 → false ≡ is_place at (form_of n)
+none-place at n ps e h = no-place at (out-Normal n).parts (out-Normal n).constant (rw (← e) h) ∙ sym (ap (is_place at) (held n))
+
+pub just-place : (at : ℕ) (n : Normal) (ps : List Part) (p : Part) → ps ≡ (out-Normal n).parts → p ≡ get_or ps 0 p → 1 ≤ length ps → length ps < 2
+    → is_place at (part p.coefficient (factor_of p.atom) (constant (out-Normal n).constant)) ≡ is_place at (form_of n)
+just-place at n ps p e i l m = one-place at (out-Normal n).parts _ p (rw (← e) i) (rw (← e) l) (rw (← e) m) ∙ sym (ap (is_place at) (held n))
+
+pub many-place : (at : ℕ) (n : Normal) (ps : List Part) → ps ≡ (out-Normal n).parts → 2 ≤ length ps → false ≡ is_place at (form_of n)
+many-place at n ps e h = more-place at (out-Normal n).parts (out-Normal n).constant (rw (← e) h) ∙ sym (ap (is_place at) (held n))
 
 -- the part of number k
 abbrev pub parts_text : (ℕ → List ℕ) → ℕ → Part → List ℕ

@@ -5,7 +5,7 @@ ghost use Rattle.sym_simplify.specs.FormText.{coefficient_text, enclosed, factor
 ghost use Rattle.sym_simplify.specs.Held.{factor_of, form_of};
 ghost use Rattle.sym_simplify.specs.Literal.{literal_form_of};
 ghost use Rattle.form_text.specs.Lists.{place_at};
-ghost use Rattle.form_text.specs.Parts.{end_text, part_text, sign_text};
+ghost use Rattle.form_text.specs.Parts.{end_text, is_place, part_text, sign_text};
 ghost use Rattle.form_text.specs.Pieces.{Puts};
 
 use crate::pieces::put;
@@ -81,6 +81,26 @@ fn is_bare(side: &Normal) -> bool
     match side.parts.as_slice() {
         [] => is_natural(&side.constant),
         [only] => is_place_alone(only, &side.constant),
+        _ => false,
+    }
+}
+
+/// Whether a part with a constant is the place `at` alone.
+fn is_place_with(only: &Part, number: &i128, at: usize) -> bool
+    ensures { result ≡ is_place at (part only.now.coefficient (factor_of only.now.atom) (constant number.now)) }
+{
+    match only.atom {
+        Atom::Var(place) => only.coefficient == 1 && place == at && *number == 0,
+        Atom::Mul(_, _) | Atom::Div(_, _) | Atom::Mod(_, _) => false,
+    }
+}
+
+/// Whether a normal term is the place `at`: that place once, and nothing else.
+pub fn is_place(normal: &Normal, at: usize) -> bool
+    ensures { result ≡ is_place at (form_of normal.now) }
+{
+    match normal.parts.as_slice() {
+        [only] => is_place_with(only, &normal.constant, at),
         _ => false,
     }
 }

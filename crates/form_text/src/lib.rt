@@ -9,6 +9,6 @@ mod forms;
 mod pieces;
 mod places;
 
-pub use forms::{put_literal, put_normal};
+pub use forms::{is_place, put_literal, put_normal};
 pub use pieces::put;
 pub use places::{place_name, put_place};
