@@ -3,7 +3,7 @@ use Rattle.std.proofs.Common.{◌≡◌, ℕ, ◌++◌, List, Option, Result, �
 use Rattle.std.proofs.KnownBytes.{Appends-trans}
 use Rattle.il_edge.specs.Faults.{HasCause}
 use Rattle.il_edge.specs.Known.{SameTold, Appends}
-use Rattle.report_text.proofs.Written.{IsSoFar}
+use Rattle.form_text.proofs.Written.{IsSoFar}
 
 -- Behind one more whole write all is as it was behind the first ones, with its text at the end.
 pub so_far_more : {T E : Type 0} (before mid now : Option (List ℕ)) (settled_before settled_mid settled_now : Option ℕ) (faults_before faults_mid faults_now : ℕ)
