@@ -12,7 +12,7 @@ use crate::limit::Limit;
 use sym_terms::{DEPTH_CAP, Literal, NODE_CAP, TermMeasure, WEIGHT_CAP, measure};
 
 /// The most long paths that a region within its size has.
-const MOST_PATHS: u64 = 16_384;
+pub const MOST_PATHS: u64 = 16_384;
 
 /// How many paths there are so far, how many nodes their comparisons and assigned terms have together, and the
 /// greatest weight and depth among these. The last three stop at the caps of a measure.

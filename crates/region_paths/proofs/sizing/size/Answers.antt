@@ -9,6 +9,7 @@ use Rattle.test_graph.specs.Decision.{decision_at}
 use Rattle.region_paths.specs.Walk.{LeadInside}
 use Rattle.region_paths.specs.Size.{IsPast}
 use Rattle.region_paths.proofs.Sized.{lead_inside, begins, first_inside, past_from}
+use Rattle.region_paths.proofs.Settled.{past_rows}
 use Rattle.region_paths.proofs.Walking.{stands_line}
 use Rattle.region_paths.proofs.sizing.size.Goals as goal
 
@@ -27,7 +28,7 @@ follow-tally-requires-clause-leading c =
 
 pub follow-tally-requires-clause-size : goal.follow-tally-requires-clause-size
 follow-tally-requires-clause-size c =
-    let count : c.len.result ≡ length c.args.proc.now.places = c.len.ensures ∙ ap length c.places.ensures.value in
+    let count : c.len-places.result ≡ length c.args.proc.now.places = c.len-places.ensures ∙ ap length c.places.ensures.value in
     let sizes : c.deref_mut.result.now ≡ map measured (own_values (length c.args.proc.now.places)) =
     c.deref_mut.ensures.value ∙ c.in_ok-sizes.ensures.sizes ∙ ap (λ (k : ℕ). map measured (own_values k)) count in
     ap length sizes ∙ length-map (own_values (length c.args.proc.now.places)) measured ∙ length-own_values (length c.args.proc.now.places)
@@ -35,20 +36,26 @@ follow-tally-requires-clause-size c =
 pub returns-in-Some : goal.returns-in-Some
 returns-in-Some c =
     let b = begins (procedure_of c.args.proc.now) c.args.control.now c.args.pc c.places.ensures.checked c.requires.control c.requires.shape c.requires.first in
-    let count : c.len.result ≡ length c.args.proc.now.places = c.len.ensures ∙ ap length c.places.ensures.value in
+    let count : c.len-places.result ≡ length c.args.proc.now.places = c.len-places.ensures ∙ ap length c.places.ensures.value in
     let sizes : c.deref_mut.result.now ≡ map measured (own_values (length c.args.proc.now.places)) =
     c.deref_mut.ensures.value ∙ c.in_ok-sizes.ensures.sizes ∙ ap (λ (k : ℕ). map measured (own_values k)) count in
-    let room : c.len-2.result ≡ length (procedure_of c.args.proc.now).lines = c.len-2.ensures ∙ ap length c.lines.ensures.value ∙ sym (length-map c.args.proc.now.lines instruction_of) in
+    let room : c.len.result ≡ length (procedure_of c.args.proc.now).lines = c.len.ensures ∙ ap length c.lines.ensures.value ∙ sym (length-map c.args.proc.now.lines instruction_of) in
     subst (IsPast (procedure_of c.args.proc.now) c.args.control.now.loops c.args.pc) (sym c.limit.ensures)
-    (past_from (procedure_of c.args.proc.now) c.args.control.now.loops c.args.pc (Some c.in-Some.tally) c.as_slice.result.now c.len-2.result c.empty.result c.paths_are_listed.ensures b c.as_slice.ensures room c.empty.ensures
+    (past_from (procedure_of c.args.proc.now) c.args.control.now.loops c.args.pc (Some c.in-Some.tally) c.as_slice.result.now c.len.result c.empty.result c.paths_are_listed.ensures b c.as_slice.ensures room c.empty.ensures
     (c.in-Some.ensures.exact (own_values (length c.args.proc.now.places)) (decision_at (procedure_of c.args.proc.now) c.args.pc) (sym sizes) c.first_node-first.ensures.unfolds))
 
 pub returns : goal.returns
 returns c =
     let b = begins (procedure_of c.args.proc.now) c.args.control.now c.args.pc c.places.ensures.checked c.requires.control c.requires.shape c.requires.first in
-    let count : c.len.result ≡ length c.args.proc.now.places = c.len.ensures ∙ ap length c.places.ensures.value in
+    let count : c.len-places.result ≡ length c.args.proc.now.places = c.len-places.ensures ∙ ap length c.places.ensures.value in
     let sizes : c.deref_mut.result.now ≡ map measured (own_values (length c.args.proc.now.places)) =
     c.deref_mut.ensures.value ∙ c.in_ok-sizes.ensures.sizes ∙ ap (λ (k : ℕ). map measured (own_values k)) count in
-    let room : c.len-2.result ≡ length (procedure_of c.args.proc.now).lines = c.len-2.ensures ∙ ap length c.lines.ensures.value ∙ sym (length-map c.args.proc.now.lines instruction_of) in
-    past_from (procedure_of c.args.proc.now) c.args.control.now.loops c.args.pc None c.as_slice.result.now c.len-2.result c.empty.result c.paths_are_listed.ensures b c.as_slice.ensures room c.empty.ensures
+    let room : c.len.result ≡ length (procedure_of c.args.proc.now).lines = c.len.ensures ∙ ap length c.lines.ensures.value ∙ sym (length-map c.args.proc.now.lines instruction_of) in
+    past_from (procedure_of c.args.proc.now) c.args.control.now.loops c.args.pc None c.as_slice.result.now c.len.result c.empty.result c.paths_are_listed.ensures b c.as_slice.ensures room c.empty.ensures
     (c.in-None.ensures.exact (own_values (length c.args.proc.now.places)) (decision_at (procedure_of c.args.proc.now) c.args.pc) (sym sizes) c.first_node-first.ensures.unfolds)
+
+pub returns-then-branch-gt-MOST_PATHS : goal.returns-then-branch-gt-MOST_PATHS
+returns-then-branch-gt-MOST_PATHS c =
+    let b = begins (procedure_of c.args.proc.now) c.args.control.now c.args.pc c.places.ensures.checked c.requires.control c.requires.shape c.requires.first in
+    past_rows (procedure_of c.args.proc.now) c.args.control.now.loops c.args.pc c.in_ok-path_count.field-0 c.paths_are_listed.ensures b
+    c.in_ok-path_count.ensures c.if-branch-gt-MOST_PATHS.true
