@@ -4,8 +4,10 @@ from __future__ import annotations
 
 import sys
 import threading
+from dataclasses import dataclass
 
 from model.accepting import accept
+from model.making import number_of, summary_of
 from model.printing import SECTIONS, report_of
 from model.refusal import Refused
 
@@ -14,13 +16,33 @@ STACK_BYTES = 512 * 1024 * 1024
 NOT_UNDERSTOOD = ("malpas: words not understood\n", 6)
 
 
-def sections_of(words: list[str]) -> tuple[str, ...] | None:
-    """The sections that the words select, all where there is none; None where a word is not understood."""
+@dataclass(frozen=True)
+class Request:
+    """What the words ask for: sections, or the summary of a made text."""
+
+    sections: tuple[str, ...]
+    made: int | None
+
+
+def read_words(words: list[str]) -> Request | None:
+    """The request of the words; None where they are not understood."""
     chosen = {f"--{section.lower()}": section for section in SECTIONS}
-    if any(word not in chosen for word in words):
+    named: set[str] = set()
+    made: list[int | None] = []
+    waiting = iter(words)
+    for word in waiting:
+        if word in chosen:
+            named.add(chosen[word])
+        elif word == "--generate":
+            made.append(number_of(next(waiting, "")))
+        elif word.startswith("--generate="):
+            made.append(number_of(word.removeprefix("--generate=")))
+        else:
+            return None
+    if len(made) > 1 or None in made:
         return None
-    named = {chosen[word] for word in words} or set(SECTIONS)
-    return tuple(section for section in SECTIONS if section in named)
+    sections = tuple(section for section in SECTIONS if section in named or not named)
+    return Request(sections, made[0] if made else None)
 
 
 def answer(text: bytes, sections: tuple[str, ...] = SECTIONS) -> tuple[str, int]:
@@ -44,9 +66,11 @@ def deeply(call, *arguments):
 
 def main() -> int:
     """Answers standard input on standard output."""
-    sections = sections_of(sys.argv[1:])
+    request = read_words(sys.argv[1:])
     output, status = NOT_UNDERSTOOD
-    if sections is not None:
-        output, status = deeply(answer, sys.stdin.buffer.read(), sections)
+    if request is not None and request.made is not None:
+        output, status = deeply(summary_of, request.made)
+    elif request is not None:
+        output, status = deeply(answer, sys.stdin.buffer.read(), request.sections)
     sys.stdout.write(output)
     return status

@@ -319,3 +319,9 @@ def text_of(normal: Normal, names: list[str]) -> str:
 def text_of_form(form: Form, names: list[str]) -> str:
     """The text of a literal's form that has parts."""
     return f"{text_of_parts(form.parts, names)} {form.relation} {form.bound}"
+
+
+def forget() -> None:
+    """Forgets all terms, atoms and normal terms, so that the next text begins with none."""
+    for table in (Term.made, Atom.made, Normal.made, Key.known):
+        table.clear()
