@@ -12,9 +12,11 @@ from model.accepting import accept
 from model.command import answer, deeply
 from model.exhaustive import faults_of
 from model.graphs import Graph, graph_of
-from model.inventing import invented, slipped
+from model.inventing import invented
 from model.printing import SECTIONS
 from model.refusal import Refused
+from model.slipping import slipped
+from model.straining import strained
 from model.terms import forget
 
 ENTRIES = ("CYCLE ", "FIRST ", "SECOND ")
@@ -190,6 +192,8 @@ def texts_of(options: argparse.Namespace) -> Iterator[tuple[str, bytes]]:
     for seed in range(options.seed, options.seed + options.count):
         yield f"text {seed}", invented(seed)
         yield f"text {seed} with slips", slipped(seed)
+    for seed in range(options.seed, options.seed + options.limits):
+        yield f"text {seed} at a limit", strained(seed)
 
 
 def read_options(words: list[str]) -> argparse.Namespace:
@@ -198,6 +202,7 @@ def read_options(words: list[str]) -> argparse.Namespace:
     parser.add_argument("program", help="the malpas program; - for none, so that only --states is tried")
     parser.add_argument("files", nargs="*", help="texts to compare on in place of random ones")
     parser.add_argument("--count", type=int, default=200, help="how many random texts, each also with slips (200)")
+    parser.add_argument("--limits", type=int, default=0, help="how many texts at the limits of the language and of regions (0)")
     parser.add_argument("--seed", type=int, default=0, help="the first text's number (0)")
     parser.add_argument("--seconds", type=float, default=60, help="the time that one run may take (60)")
     parser.add_argument("--skip", action="append", default=[], choices=SECTIONS, help="a section that is not compared")
@@ -212,7 +217,7 @@ def compare_all(options: argparse.Namespace) -> int:
     for name, text in texts_of(options):
         if options.program != "-":
             comparison.compare(name, text)
-        if options.states and not name.endswith("slips"):
+        if options.states and not name.endswith((" slips", " limit")):
             comparison.try_inputs(name, text)
             comparison.passed += options.program == "-"
     print(f"{comparison.passed} passed, {comparison.failed} failed")

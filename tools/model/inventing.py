@@ -5,7 +5,6 @@ from __future__ import annotations
 import random
 from dataclasses import dataclass, field
 
-from model.lexing import KEYWORDS
 from model.program import WHOLE
 
 FLAG = "BOOL"
@@ -180,12 +179,17 @@ class Inventor:
         self.place = "body"
 
     def jump(self) -> None:
-        """A label or a jump; every label that is named stands at last before the end."""
-        if self.choice.random() < 0.5 and f"LABEL l{self.labels}" not in self.lines:
+        """A label or a jump, mostly under a test; every label that is named stands at last before the end."""
+        if self.choice.random() < 0.5:
             self.say(f"LABEL l{self.labels}")
             self.labels += 1
-        else:
-            self.say(f"GOTO l{self.choice.randrange(self.labels + 2)}")
+            return
+        tested = self.choice.random() < 0.8
+        if tested:
+            self.say(f"IF {self.condition(1)}")
+        self.say(f"GOTO l{self.choice.randrange(self.labels + 3)}")
+        if tested:
+            self.say("ENDIF")
 
     def block(self, nest: int, loops: int) -> None:
         """Some statements."""
@@ -194,7 +198,9 @@ class Inventor:
                 return
             self.budget -= 1
             roll = self.choice.random()
-            if roll < 0.45 or nest > 3:
+            if self.jumps and roll < 0.25:
+                self.jump()
+            elif roll < 0.45 or nest > 3:
                 self.assign()
             elif roll < 0.6:
                 self.test(nest, loops)
@@ -202,10 +208,8 @@ class Inventor:
                 self.loop(nest, loops)
             elif roll < 0.85:
                 self.check()
-            elif roll < 0.9 and loops:
+            elif roll < 0.89 and loops:
                 self.say(self.choice.choice(["EXIT", f"EXIT WHEN {self.condition(1)}"]))
-            elif roll < 0.94 and self.jumps:
-                self.jump()
             else:
                 self.say(self.choice.choice(["SKIP", "SKIP", "SKIP", "RETURN"]))
 
@@ -247,53 +251,4 @@ class Inventor:
 def invented(seed: int) -> bytes:
     """The accepted text of a number; some are refused after all, for an expression that is too wide."""
     choice = random.Random(seed)
-    return Inventor(choice, wide=choice.random() < 0.2, jumps=choice.random() < 0.3).text()
-
-
-SLIPS = [";", ":=", "(", ")", "..", "-", "9223372036854775808", "9223372036854775807", "= 3 =", "OLD x0", "x0", "x9", "k0"]
-SLIPS += ["t0", "e0", "v0_0", "p0", "[", "]", "#", "n" * 41, "TRUE", "WRAP", "BOOL", "..0", "<", "NOT", "x1", "0", "007"]
-
-
-def slip_in_bytes(choice: random.Random, text: bytes) -> bytes:
-    """One byte gone, added or changed, or the text cut off."""
-    at = choice.randrange(len(text) + 1)
-    other = bytes([choice.choice([choice.randrange(256), choice.choice(b"[];:=.<>/ \n\t")])])
-    return choice.choice([text[:at], text[:at] + text[at + 1 :], text[:at] + other + text[at:], text[:at] + other + text[at + 1 :]])
-
-
-def slip_in_words(choice: random.Random, text: bytes) -> bytes:
-    """One word gone, doubled, changed or swapped with another."""
-    words = text.decode("latin-1").replace(";", " ;").split(" ")
-    one, two = choice.randrange(len(words)), choice.randrange(len(words))
-    roll = choice.randrange(5)
-    if roll == 0:
-        del words[one]
-    elif roll == 1:
-        words[one], words[two] = words[two], words[one]
-    elif roll == 2:
-        words[one] = words[two]
-    else:
-        words[one] = choice.choice(SLIPS + sorted(KEYWORDS))
-    return " ".join(words).encode("latin-1")
-
-
-def slip_in_statements(choice: random.Random, text: bytes) -> bytes:
-    """One statement gone, doubled or moved."""
-    statements = text.decode("latin-1").split(";")
-    one, two = choice.randrange(len(statements)), choice.randrange(len(statements))
-    taken = statements[one]
-    if choice.random() < 0.7:
-        del statements[one]
-    if choice.random() < 0.6:
-        statements.insert(two, taken)
-    return ";".join(statements).encode("latin-1")
-
-
-def slipped(seed: int) -> bytes:
-    """An invented text with one to three slips."""
-    choice = random.Random(-1 - seed)
-    text = invented(seed)
-    for _ in range(choice.choice([1, 1, 1, 2, 3])):
-        slip = choice.choice([slip_in_bytes, slip_in_words, slip_in_words, slip_in_statements])
-        text = slip(choice, text) or b";"
-    return text
+    return Inventor(choice, wide=choice.random() < 0.2, jumps=choice.random() < 0.4).text()

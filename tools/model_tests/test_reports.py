@@ -8,7 +8,8 @@ from model.accepting import accept
 from model.command import answer, read_words
 from model.comparing import Answer, difference, shrunk
 from model.exhaustive import faults_of
-from model.inventing import invented, slipped
+from model.inventing import invented
+from model.slipping import slipped
 from model_tests import worked
 
 
