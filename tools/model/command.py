@@ -4,6 +4,7 @@ from __future__ import annotations
 
 import sys
 import threading
+from concurrent.futures import ThreadPoolExecutor
 from dataclasses import dataclass
 
 from model.accepting import accept
@@ -54,14 +55,11 @@ def answer(text: bytes, sections: tuple[str, ...] = SECTIONS) -> tuple[str, int]
 
 
 def deeply(call, *arguments):
-    """Runs a call on a stack that is large enough for the deepest expressions."""
+    """The answer of a call that runs on a stack large enough for the deepest expressions."""
     sys.setrecursionlimit(DEEPEST_CALL)
     threading.stack_size(STACK_BYTES)
-    answers = []
-    worker = threading.Thread(target=lambda: answers.append(call(*arguments)))
-    worker.start()
-    worker.join()
-    return answers[0] if answers else ("", 70)
+    with ThreadPoolExecutor(1) as pool:
+        return pool.submit(call, *arguments).result()
 
 
 def main() -> int:

@@ -54,9 +54,12 @@ def run(program: list[str], text: bytes, seconds: float) -> Answer:
 
 
 def modelled(text: bytes) -> Answer:
-    """The model's answer to a text."""
+    """The model's answer to a text; where the model itself breaks down, that is its answer."""
     forget()
-    return Answer(*answer(text))
+    try:
+        return Answer(*answer(text))
+    except Exception as trouble:  # pylint: disable=broad-exception-caught
+        return Answer(f"the model breaks down: {trouble!r}", 70)
 
 
 def lines_of(line: str) -> list[int]:
@@ -104,7 +107,7 @@ def first_difference(program: list[str], model: list[str]) -> str | None:
 
 def difference(text: bytes, program: Answer, model: Answer, skipped: set[str]) -> str | None:
     """The first difference of two answers, apart from sections that are skipped; None where there is none."""
-    if 2 in (program.status, model.status) or not program.output.startswith("MALPAS "):
+    if {2, 70} & {program.status, model.status} or not program.output.startswith("MALPAS "):
         same = program == model
         return None if same else f"the program says {program.output[:200]!r} ({program.status}), the model {model.output[:200]!r}"
     ours, theirs = model.sections(), program.sections()
