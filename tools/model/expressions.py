@@ -79,6 +79,7 @@ def definitions_of(graph: Graph, order: list[int]) -> Definitions:
     renumbered = {number: index for index, number in enumerate(kept, 1)}
 
     def text(value: Value) -> str:
+        """How a value is written."""
         return f"a{value[1]}" if value[0] == "a" else f"E{renumbered[value[1]]}"
 
     lines = []

@@ -136,6 +136,7 @@ def find_cycle(graph: Graph, reachable: set[int], tails: dict[int, list[int]]) -
     """A cycle without an arc to a head that every path to it passes, from its least line on; None where there is none."""
 
     def forward(line: int) -> list[int]:
+        """The lines after a line by the other arcs."""
         return [head for head in graph.after[line] if line not in tails.get(head, [])]
 
     done: set[int] = set()

@@ -1,7 +1,7 @@
 """Easy literals: which paths no input can take by them, and the least input of the others.
 
-A literal is easy where its normal form has at most one place, or two with opposite coefficients. Such a literal bounds the difference of
-two places, or a place by a number.
+A literal is easy where its normal form has at most one place, or two with opposite coefficients. Such a literal bounds the
+difference of two places, or a place by a number.
 """
 
 from __future__ import annotations

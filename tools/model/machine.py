@@ -8,8 +8,6 @@ from model.ways import Stop
 
 State = tuple[int, ...]
 
-RELATIONS = ("=", "/=", "<", "<=", ">", ">=")
-
 
 class DividedByZero(Exception):
     """A divisor is 0."""

@@ -43,7 +43,7 @@ def control_lines(control: Control, derivation: Derivation) -> Iterator[str]:
     yield f"UNREACHABLE {lines_text(control.unreachable)}"
     yield f"STUCK {lines_text(control.stuck)}"
     for loop in control.loops:
-        yield f"LOOP {'L%d' % loop.head}: {lines_text(loop.members)} LEADING {lines_text(loop.leading)}"
+        yield f"LOOP L{loop.head}: {lines_text(loop.members)} LEADING {lines_text(loop.leading)}"
     for number, level in enumerate(derivation.levels):
         yield f"LEVEL {number}"
         for interval in level:

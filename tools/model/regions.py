@@ -72,6 +72,7 @@ class Region:
 
         @lru_cache(maxsize=None)
         def from_line(line: int) -> int:
+            """How many begin at a line."""
             total = 0
             for next_line, ways in count_ways(self.procedure, line):
                 if not ways:

@@ -8,8 +8,8 @@ import re
 from model.inventing import invented
 from model.lexing import KEYWORDS
 
-SLIPS = [";", ":=", "(", ")", "..", "-", "9223372036854775808", "9223372036854775807", "= 3 =", "OLD x0", "x0", "x9", "k0"]
-SLIPS += ["t0", "e0", "v0_0", "p0", "[", "]", "#", "n" * 41, "TRUE", "WRAP", "BOOL", "..0", "<", "NOT", "x1", "0", "007"]
+SLIPS = [";", ":=", "(", ")", "..", "-", "9223372036854775808", "9223372036854775807", "= 3 =", "OLD x0", "x0", "x9"]
+SLIPS += ["k0", "t0", "e0", "v0_0", "p0", "[", "]", "#", "n" * 41, "TRUE", "WRAP", "BOOL", "..0", "<", "NOT", "x1", "0", "007"]
 
 STRAY = ["ELSE", "ENDIF", "ENDLOOP", "IF TRUE", "LOOP", "EXIT", "EXIT WHEN TRUE", "LABEL l0", "GOTO l0", "GOTO l9", "RETURN"]
 STRAY += ["x0 := 1", "x0 := TRUE", "x1 := x0", "x9 := 0", "ASSERT x0", "ASSERT OLD x0 = x0", "IF OLD x1 = 0", "CALL p0", "SKIP"]
@@ -68,7 +68,8 @@ def slip_in_pieces(choice: random.Random, text: bytes, pattern: re.Pattern[bytes
 
 def slip_in_names(choice: random.Random, text: bytes) -> bytes:
     """One name or keyword becomes another."""
-    return slip_in_pieces(choice, text, NAME, [b"x0", b"x1", b"t0", b"k0", b"OLD x0", b"IN", b"OUT", b"INOUT", b"LOCAL", b"BOOL"])
+    others = [b"x0", b"x1", b"t0", b"k0", b"OLD x0", b"IN", b"OUT", b"INOUT", b"LOCAL", b"BOOL"]
+    return slip_in_pieces(choice, text, NAME, others)
 
 
 def slip_in_numbers(choice: random.Random, text: bytes) -> bytes:

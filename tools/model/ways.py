@@ -5,10 +5,9 @@ from __future__ import annotations
 from dataclasses import dataclass
 from typing import Callable, Iterator
 
+from model.parsing import RELATIONS
 from model.program import WHOLE, CheckedProcedure, Expression, Line, Place
 from model.terms import OPPOSITE, Literal, Term, both, num, var
-
-RELATIONS = ("=", "/=", "<", "<=", ">", ">=")
 
 Stop = tuple[str, int]
 """`HEAD`, `ASSERT`, `DIVZERO` and `RANGE` with a line; `END`, `OUTSIDE` and `POST` with -1."""
@@ -115,11 +114,13 @@ def with_range(place: Place, expression: Expression, fault: str) -> Callable[[Te
     least, greatest = expression.bounds
 
     def above(term: Term) -> list[Partial]:
+        """The decision on the greatest value, where there is one."""
         if greatest <= place.greatest:
             return plain(term)
         return decide(term, "<=", num(place.greatest), term, fault)
 
     def below(term: Term) -> list[Partial]:
+        """The decision on the least value, where there is one, and then the other."""
         if least >= place.least:
             return above(term)
         low, high = decide(term, ">=", num(place.least), term, fault)
@@ -143,8 +144,6 @@ def assignments(place: Place, expression: Expression) -> list[Partial]:
         if expression.kind == "flag":
             return plain(var(expression.value))
         return follow(evaluations(expression), lambda truth: plain(num(int(truth))))
-    if expression.bounds is None:
-        raise AssertionError
     if place.kind != WHOLE:
         return evaluations(expression)
     if place.wrap:
