@@ -117,6 +117,11 @@ class Inventor:
             sides = [self.choice.choice(self.readable(kind) + self.enumerations[kind]) for _ in range(2)]
             return f"{sides[0]} {self.choice.choice(['=', '/='])} {sides[1]}"
         relation = self.choice.choice(["=", "=", "/=", "/=", "<", "<=", ">", ">="])
+        names = self.readable(WHOLE)
+        if len(names) > 1 and self.choice.random() < 0.25:
+            one, two = self.choice.sample(names, 2)
+            times = self.choice.choice(["", "", "2 * ", "3 * ", "(-2) * "])
+            return f"{times}{one} {self.choice.choice(['-', '-', '-', '+'])} {times}{two} {relation} {self.small()}"
         if self.choice.random() < 0.6:
             depth = min(depth, 1)
         return f"{self.number(depth)} {relation} {self.number(depth - 1)}"
