@@ -7,4 +7,6 @@ mod regions;
 #[cfg(test)]
 mod row_text;
 #[cfg(test)]
+mod sizes;
+#[cfg(test)]
 mod tables;

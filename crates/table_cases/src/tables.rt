@@ -2,6 +2,7 @@
 use crate::regions::{Asked, rows_of};
 use crate::row_text::table_text;
 use std::alloc::Global;
+use std::process::Abort;
 use std::test::Fail;
 
 /// A region of a text, which of its rows are asked for, and what they are. The places stand by number in the order of
@@ -9,10 +10,12 @@ use std::test::Fail;
 type Case<'a> = (usize, Asked, &'a str);
 
 /// An addition that may leave the range.
-const RANGE: &[u8] = b"TITLE t; PROC p; INOUT x : 0 .. 9; PRE TRUE; POST TRUE; x := x + 1; ENDPROC; FINISH;";
+const RANGE: &[u8] =
+    b"TITLE t; PROC p; INOUT x : 0 .. 9; PRE TRUE; POST TRUE; x := x + 1; ENDPROC; FINISH;";
 
 /// A quotient that may have no value, and may leave the range on both sides.
-const QUOTIENT: &[u8] = b"TITLE t; PROC p; IN a : 0 .. 9; IN b : -2 .. 2; OUT q : -3 .. 3; PRE TRUE; POST TRUE; \
+const QUOTIENT: &[u8] =
+    b"TITLE t; PROC p; IN a : 0 .. 9; IN b : -2 .. 2; OUT q : -3 .. 3; PRE TRUE; POST TRUE; \
 q := a DIV b; ENDPROC; FINISH;";
 
 /// A condition with a quotient on its right side.
@@ -43,7 +46,8 @@ const WRAPPING: &[u8] =
 x := x + 1; z := z * 2; ENDPROC; FINISH;";
 
 /// Places that change in turn on both sides of a test, and are compared behind it.
-const TURNS: &[u8] = b"TITLE t; PROC p; IN c : 0 .. 9; INOUT x : 0 .. 9; INOUT y : 0 .. 9; PRE TRUE; POST TRUE; \
+const TURNS: &[u8] =
+    b"TITLE t; PROC p; IN c : 0 .. 9; INOUT x : 0 .. 9; INOUT y : 0 .. 9; PRE TRUE; POST TRUE; \
 IF c = 1; x := 3; ELSE; y := x; ENDIF; IF x <= y; SKIP; ENDIF; ENDPROC; FINISH;";
 
 /// Whether the rows of a text's regions are as the cases show them.
