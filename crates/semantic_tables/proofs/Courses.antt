@@ -1,10 +1,8 @@
 -- Where a walk goes on behind a line.
 use Rattle.std.proofs.Common.{◌≡◌, refl, sym, ap, ◌∙◌, subst, ℕ, zero, suc, ◌+◌, ◌-◌, ◌<◌, ◌≤◌, Bool, true, false, Option, Some, None, List, [], ◌∷◌, length, slice_get, drop, arith}
 use Rattle.std.specs.Prelude.{if◌then◌else◌}
-use Rattle.std.proofs.lemmas.List.{length-map}
-use Rattle.std.proofs.lemmas.Option.{same_Some, none-some, slice_get_within, slice_get_past}
-use Rattle.std.proofs.lemmas.Bool.{cases_lt}
-use Rattle.il_core.specs.Procedure.{Procedure, instruction_of}
+use Rattle.std.proofs.lemmas.Option.{same_Some, none-some, slice_get_within}
+use Rattle.il_core.specs.Procedure.{Procedure}
 use Rattle.il_core.specs.declared.line.Next.TheVariants as next
 use Rattle.il_core.specs.declared.line.Stop.TheVariants as stop
 use Rattle.control_flow.specs.declared.control.LoopInfo.{LoopInfo}
@@ -14,9 +12,8 @@ use Rattle.test_graph.proofs.Speaking.{decides-below}
 use Rattle.region_paths.specs.Region.{is_head, leading_of}
 use Rattle.region_paths.specs.PathTree.{PathTree, stops, grafted, passed, tree_to, leading_tree}
 use Rattle.region_paths.proofs.Walking.{in_at}
-use Rattle.semantic_tables.specs.Walk.{ground_procedure, IsGround, head_tree, head_in, leading_in, behind, tree_from, leading_lines, lines_left, IsOnward, GoesOn}
+use Rattle.semantic_tables.specs.Walk.{ground_procedure, IsGround, head_tree, head_in, leading_in, behind, leading_lines, lines_left, IsOnward, GoesOn}
 use Rattle.semantic_tables.specs.declared.course.Ground.{Ground}
-use Rattle.semantic_tables.specs.declared.course.Course.{Course}
 use Rattle.semantic_tables.specs.declared.course.Course.TheVariants.{Region, Leading}
 use Rattle.semantic_tables.specs.declared.course.Onward.{Onward}
 use Rattle.semantic_tables.specs.declared.course.Onward.TheVariants.{Stops, On}

@@ -1,10 +1,9 @@
 -- The terms of the places and the sides of literals stand while the store grows.
-use Rattle.std.proofs.Common.{◌≡◌, inl, inr, refl, sym, ap, ◌∙◌, subst, ℕ, zero, suc, ◌+◌, ◌<◌, ◌≤◌, ◌^◌, Some, List, [], ◌∷◌, ◌++◌, map, length, slice_get, arith}
+use Rattle.std.proofs.Common.{◌≡◌, inl, inr, refl, sym, ap, ◌∙◌, subst, ℕ, zero, suc, ◌+◌, ◌<◌, Some, List, [], ◌∷◌, ◌++◌, map, length, slice_get, arith}
 use Rattle.std.specs.Prelude.{Bool, slice_set, All, IfOk, Result, Ok, Err}
 use Rattle.std.proofs.lemmas.List.{map-set, length-map, length-set, set-set, set-get_or, map-append}
 use Rattle.std.proofs.lemmas.Option.{get_or_from_slice_get, none-some}
 use Rattle.sym_terms.specs.Tree.{Tree, variable}
-use Rattle.sym_terms.specs.Measure.{weight, depth}
 use Rattle.sym_terms.specs.Substitution.{HasPlacesBelow, substituted}
 use Rattle.sym_terms.specs.Comparison.{Comparison, comparison_under, ComparesPlacesBelow}
 use Rattle.sym_terms.specs.Grown.{Keeps}

@@ -1,5 +1,5 @@
 -- The paths that are kept of a list, and the rows that they add.
-use Rattle.std.proofs.Common.{◌≡◌, ◌↔◌, inl, inr, refl, sym, ap, ◌∙◌, subst, Bool, true, false, List, [], ◌∷◌, ◌++◌, map, Option, append_assoc}
+use Rattle.std.proofs.Common.{◌≡◌, inl, inr, refl, sym, ap, ◌∙◌, subst, Bool, true, false, List, [], ◌∷◌, ◌++◌, map, Option, append_assoc}
 use Rattle.std.proofs.lemmas.List.{append-nil, map-append}
 use Rattle.il_core.specs.LineGraph.{IsIn}
 use Rattle.il_core.specs.declared.line.Stop.{Stop}
@@ -10,9 +10,9 @@ use Rattle.sym_simplify.specs.Literal.{LiteralForm}
 use Rattle.test_graph.specs.Decision.{Change}
 use Rattle.test_graph.specs.Way.{changed}
 use Rattle.region_paths.specs.PlainRow.{assigned_under}
-use Rattle.region_paths.specs.Listing.{RegionPath, is_before, Ascend, ListsPaths}
+use Rattle.region_paths.specs.Listing.{RegionPath, Ascend, ListsPaths}
 use Rattle.region_paths.specs.PathTree.{PathTree, fork, change, stops, begun, paths_down}
-use Rattle.semantic_tables.specs.Row.{NormalRow, row_of, comparison_form, forms_of, normal_row}
+use Rattle.semantic_tables.specs.Row.{NormalRow, row_of, comparison_form, forms_of}
 use Rattle.semantic_tables.specs.Walk.{AreKept, Adds, normal_behind}
 use Rattle.semantic_tables.specs.declared.row.Row.{Row}
 

@@ -1,5 +1,5 @@
 -- Down the trees of a region that passes no limit each comparison and each assigned term is small.
-use Rattle.std.proofs.Common.{◌≡◌, inl, inr, refl, sym, ap, ◌∙◌, subst, ℕ, zero, suc, ◌^◌, ◌<◌, ◌≤◌, Bool, true, false, Option, Some, None, List, [], ◌∷◌, ◌++◌, map, length, arith}
+use Rattle.std.proofs.Common.{◌≡◌, inl, inr, refl, sym, ap, subst, ℕ, zero, suc, ◌^◌, ◌<◌, ◌≤◌, Bool, true, false, Option, Some, None, List, [], ◌∷◌, map, length, arith}
 use Rattle.std.specs.Prelude.{max, nat_lt, nat_le, sum_by, if◌then◌else◌}
 use Rattle.std.proofs.lemmas.Bool.{ltb-false, leb-false}
 use Rattle.il_core.specs.LineGraph.{IsIn}
@@ -20,8 +20,7 @@ use Rattle.region_paths.specs.PlainRow.{assigned_under}
 use Rattle.region_paths.specs.Listing.{RegionPath}
 use Rattle.region_paths.specs.Laws.{BeginsRegion, PathsAreListed, OneListing}
 use Rattle.region_paths.specs.PathTree.{PathTree, fork, change, stops, grafted, below, tree_to, begun, paths_down, long_tree, long_paths}
-use Rattle.region_paths.specs.Size.{greatest_by, path_nodes, path_weight, path_depth, limit_passed, past_of, IsPast}
-use Rattle.region_paths.specs.declared.limit.Limit.{Limit}
+use Rattle.region_paths.specs.Size.{greatest_by, path_nodes, path_weight, path_depth, limit_passed, IsPast}
 use Rattle.region_paths.specs.declared.limit.Limit.TheVariants.{Rows, Nodes, Weight, Depth}
 use Rattle.path_inputs.proofs.Members.{in-left, in-right}
 use Rattle.semantic_tables.specs.Walk.{head_tree, behind, AssignsSmall, StaysSmall}

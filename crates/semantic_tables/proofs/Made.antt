@@ -9,7 +9,7 @@ use Rattle.region_paths.specs.Listing.{RegionPath, IsShortPath}
 use Rattle.region_paths.specs.Laws.{BeginsRegion, PathsAreListed, OneListing}
 use Rattle.region_paths.specs.PathTree.{grafted, paths_down, short_tree, short_paths, long_tree, long_paths}
 use Rattle.region_paths.specs.Size.{IsPast}
-use Rattle.semantic_tables.specs.Row.{forms_of, row_of, normal_row}
+use Rattle.semantic_tables.specs.Row.{forms_of, normal_row}
 use Rattle.semantic_tables.specs.Walk.{behind, StaysSmall, IsLeftOut, Adds, IsTableFor, normal_behind}
 use Rattle.semantic_tables.specs.declared.row.Row.{Row}
 use Rattle.semantic_tables.specs.declared.row.TableOr.TheVariants.{Table, Past}

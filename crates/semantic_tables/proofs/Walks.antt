@@ -24,13 +24,13 @@ use Rattle.sym_terms.specs.declared.term.Literal.{Literal}
 use Rattle.sym_terms.proofs.Composed.{places_substituted}
 use Rattle.sym_simplify.specs.Literal.{LiteralForm, literal_form_of}
 use Rattle.path_inputs.specs.Laws.{RefutedStaysRefuted}
-use Rattle.test_graph.specs.Decision.{Change, Decision, ask, done, decision_at}
+use Rattle.test_graph.specs.Decision.{Change, Decision, done}
 use Rattle.test_graph.specs.Way.{changed}
 use Rattle.test_graph.specs.Places.{DecidesPlacesBelow}
 use Rattle.test_graph.specs.Lowered.{Unfolds}
 use Rattle.test_graph.specs.declared.graph.TestNode.TheVariants.{Test, Assign, AtLine, Stop as Halts}
 use Rattle.region_paths.specs.Listing.{RegionPath}
-use Rattle.region_paths.specs.PathTree.{PathTree, change, stops, grafted, begun, paths_down}
+use Rattle.region_paths.specs.PathTree.{PathTree, change, stops, begun, paths_down}
 use Rattle.region_paths.proofs.Nodes.{at_test, at_assign, at_line, at_stop, node_there}
 use Rattle.region_paths.proofs.Walking.{line_less}
 use Rattle.semantic_tables.specs.Row.{comparison_form}
@@ -41,7 +41,7 @@ use Rattle.semantic_tables.specs.declared.prefix.Prefix.{Prefix}
 use Rattle.semantic_tables.specs.declared.course.Ground.{Ground}
 use Rattle.semantic_tables.specs.declared.course.Course.{Course}
 use Rattle.semantic_tables.specs.declared.course.Course.TheVariants.{Region, Leading}
-use Rattle.semantic_tables.proofs.Kept.{adds_fork, adds_change, adds_behind}
+use Rattle.semantic_tables.proofs.Kept.{adds_fork, adds_change}
 use Rattle.semantic_tables.proofs.Environments.{forms_more}
 
 -- fewer lines to go is less to do

@@ -4,7 +4,6 @@ use Rattle.il_core.specs.Checked.{procedure_of, IsChecked}
 use Rattle.il_core.specs.Procedure.{Procedure}
 use Rattle.il_core.specs.declared.line.Next.{Next}
 use Rattle.il_core.specs.declared.line.Place.{Place}
-use Rattle.il_core.specs.declared.line.Stop.{Stop}
 use Rattle.il_core.specs.declared.line.Stop.TheVariants as stop
 use Rattle.control_flow.specs.declared.control.LoopInfo.{LoopInfo}
 use Rattle.sym_terms.specs.Tree.{Tree}

@@ -1,4 +1,4 @@
-use Rattle.std.proofs.Common.{◌≡◌, sym, ap, ◌∙◌, subst, ℕ, suc, ◌-◌, true, length, arith}
+use Rattle.std.proofs.Common.{◌≡◌, sym, subst, suc, ◌-◌, arith}
 use Rattle.std.proofs.lemmas.Option.{slice_get_within}
 use Rattle.il_core.specs.declared.line.Next.TheVariants as next
 use Rattle.semantic_tables.specs.Walk.{ground_procedure, behind, lines_left, GoesOn}

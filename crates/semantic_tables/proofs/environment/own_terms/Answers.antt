@@ -1,4 +1,4 @@
-use Rattle.std.proofs.Common.{◌≡◌, ◌∙◌, ap, sym, subst, ℕ, arith}
+use Rattle.std.proofs.Common.{◌≡◌, ◌∙◌, ap, sym, subst, arith}
 use Rattle.sym_terms.specs.Identity.{own_values}
 use Rattle.sym_terms.specs.Nodes.{terms_of, AreWithin}
 use Rattle.semantic_tables.proofs.Environments.{own_more, within_more, own_env}

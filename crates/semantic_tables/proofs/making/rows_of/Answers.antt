@@ -1,8 +1,7 @@
-use Rattle.std.proofs.Common.{◌≡◌, refl, sym, ap, ◌∙◌, subst, List, [], map, length, All, arith}
-use Rattle.sym_terms.specs.Tree.{Tree}
+use Rattle.std.proofs.Common.{◌≡◌, sym, ap, ◌∙◌, subst, List, [], map, length, All, arith}
 use Rattle.sym_terms.specs.Identity.{own_values}
 use Rattle.sym_terms.specs.Nodes.{terms_of}
-use Rattle.sym_simplify.specs.Literal.{LiteralForm, literal_form_of}
+use Rattle.sym_simplify.specs.Literal.{literal_form_of}
 use Rattle.test_graph.specs.Decision.{decision_at}
 use Rattle.test_graph.proofs.Speaking.{decides-below}
 use Rattle.region_paths.specs.PathTree.{paths_down}

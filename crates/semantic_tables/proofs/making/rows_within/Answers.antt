@@ -1,4 +1,4 @@
-use Rattle.std.proofs.Common.{◌≡◌, sym, ap, ◌∙◌, subst, None, List, map, length, arith}
+use Rattle.std.proofs.Common.{◌≡◌, sym, ap, ◌∙◌, subst, None, length}
 use Rattle.std.proofs.lemmas.List.{length-map}
 use Rattle.il_core.specs.Procedure.{instruction_of}
 use Rattle.il_core.specs.Checked.{procedure_of}

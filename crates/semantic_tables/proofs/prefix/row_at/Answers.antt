@@ -3,7 +3,7 @@ use Rattle.sym_terms.specs.Nodes.{terms_of}
 use Rattle.sym_terms.specs.declared.node.TermNode.{TermNode}
 use Rattle.sym_simplify.specs.Held.{form_of}
 use Rattle.sym_simplify.specs.Norm.{norm}
-use Rattle.sym_simplify.specs.Literal.{LiteralForm, literal_form_of}
+use Rattle.sym_simplify.specs.Literal.{literal_form_of}
 use Rattle.semantic_tables.specs.Row.{comparison_form}
 use Rattle.semantic_tables.specs.Walk.{IsCompared, comparison_at, prefix_forms, AreForms}
 use Rattle.semantic_tables.specs.declared.prefix.Sides.{Sides}

@@ -1,33 +1,29 @@
-use Rattle.std.proofs.Common.{◌≡◌, refl, sym, ap, ◌∙◌, subst, ℕ, ◌+◌, ◌*◌, ◌<◌, Bool, true, false, Some, None, List, [], ◌∷◌, ◌++◌, map, length, slice_get, All, arith}
+use Rattle.std.proofs.Common.{◌≡◌, sym, ap, ◌∙◌, subst, ℕ, ◌+◌, ◌<◌, Some, None, List, [], ◌∷◌, ◌++◌, map, length, slice_get, All, arith}
 use Rattle.std.specs.Prelude.{slice_set}
 use Rattle.std.proofs.lemmas.List.{length-set}
 use Rattle.il_core.specs.declared.line.Next.TheVariants as next
-use Rattle.il_core.specs.declared.line.Stop.TheVariants as stop
 use Rattle.sym_terms.specs.Tree.{Tree, tree_of}
 use Rattle.sym_terms.specs.Substitution.{substituted, HasPlacesBelow}
-use Rattle.sym_terms.specs.Comparison.{Comparison, comparison_of, comparison_under, denied, ComparesPlacesBelow}
+use Rattle.sym_terms.specs.Comparison.{comparison_of, denied, ComparesPlacesBelow}
 use Rattle.sym_terms.specs.Grown.{Keeps}
-use Rattle.sym_terms.specs.Nodes.{tree_at, terms_of}
+use Rattle.sym_terms.specs.Nodes.{terms_of}
 use Rattle.sym_terms.specs.declared.node.TermId.{TermId}
 use Rattle.sym_terms.specs.declared.node.TermNode.{TermNode}
 use Rattle.sym_terms.proofs.Grown.{keeps_trans}
 use Rattle.std.proofs.lemmas.Option.{none-some}
 use Rattle.sym_terms.proofs.Composed.{places_substituted}
 use Rattle.sym_terms.proofs.Terms.{terms_kept}
-use Rattle.sym_simplify.specs.Literal.{LiteralForm, literal_form_of}
+use Rattle.sym_simplify.specs.Literal.{literal_form_of}
 use Rattle.sym_simplify.specs.Easy.{IsKept}
 use Rattle.sym_simplify.specs.Places.{HasLiteralPlacesBelow}
 use Rattle.sym_simplify.specs.declared.normal.LitForm.{LitForm}
-use Rattle.test_graph.specs.declared.graph.TestNode.{TestNode}
 use Rattle.test_graph.specs.declared.graph.TestNode.TheVariants.{Test, Assign, AtLine, Stop}
-use Rattle.region_paths.specs.PathTree.{PathTree, paths_down}
+use Rattle.region_paths.specs.PathTree.{paths_down}
 use Rattle.region_paths.proofs.Nodes.{node_there}
 use Rattle.region_paths.proofs.Walking.{line_unfolds}
 use Rattle.semantic_tables.specs.Row.{comparison_form}
 use Rattle.semantic_tables.specs.Fit.{HasSoundLiterals}
-use Rattle.semantic_tables.specs.Walk.{ground_procedure, behind, lines_left, tree_from, IsOnward, Stands, IsEnvironment, IsPrefix, IsSamePrefix, prefix_forms, comparison_at, AreSides, LeftOut, Adds}
-use Rattle.semantic_tables.specs.declared.row.Row.{Row}
-use Rattle.semantic_tables.specs.declared.prefix.Prefix.{Prefix}
+use Rattle.semantic_tables.specs.Walk.{ground_procedure, behind, lines_left, tree_from, IsOnward, Stands, IsEnvironment, IsPrefix, IsSamePrefix, prefix_forms, comparison_at, LeftOut, Adds}
 use Rattle.semantic_tables.proofs.Kept.{adds_none}
 use Rattle.semantic_tables.proofs.Environments.{env_kept, env_set, put_back, sides_kept, forms_kept, all_below, all_kept, ok_map}
 use Rattle.semantic_tables.proofs.Walks.{fewer_less, adds_as, stands_met, stands_unmet, compared, stands_then, assigned, stands_on, node_within, fork_added, assign_added, line_added, line_stops, halt_stops, sides_new, sides_denied, prefix_added, prefix_same, out_stays, if_true, if_false, front, same_prefix}

@@ -2,7 +2,6 @@ use Rattle.std.proofs.Common.{◌∙◌, sym, subst}
 use Rattle.il_core.specs.Checked.{procedure_of}
 use Rattle.il_core.specs.Places.{AreCheckedPlaces}
 use Rattle.il_core.proofs.Inputs.{checked-places}
-use Rattle.semantic_tables.proofs.Walks.{prefix_same}
 use Rattle.semantic_tables.proofs.walking.is_open.Goals as goal
 
 pub least_input-requires-clause-places : goal.least_input-requires-clause-places

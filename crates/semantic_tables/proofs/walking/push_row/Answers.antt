@@ -1,12 +1,10 @@
-use Rattle.std.proofs.Common.{◌≡◌, ◌∙◌, ap, sym, subst, List, [], ◌∷◌, ◌++◌, map, length, All}
+use Rattle.std.proofs.Common.{◌≡◌, ◌∙◌, ap, sym, subst, [], ◌∷◌, ◌++◌, map, length, All}
 use Rattle.std.proofs.lemmas.List.{map-append}
 use Rattle.sym_terms.specs.Nodes.{terms_of}
-use Rattle.semantic_tables.specs.Row.{NormalRow, row_of}
+use Rattle.semantic_tables.specs.Row.{row_of}
 use Rattle.semantic_tables.specs.Fit.{HasSoundLiterals}
 use Rattle.semantic_tables.specs.Walk.{LeftOut, prefix_forms}
-use Rattle.semantic_tables.specs.declared.row.Row.{Row}
 use Rattle.path_inputs.proofs.Elements.{all-both, members-all}
-use Rattle.il_core.specs.LineGraph.{IsIn}
 use Rattle.std.proofs.Common.{inl, inr}
 use Rattle.semantic_tables.proofs.Kept.{adds_stop}
 use Rattle.semantic_tables.proofs.Walks.{ok_from}
