@@ -1,7 +1,8 @@
 -- One node's count: from counts that are at least, or at most, the paths of some lines to those of one line more.
-use Rattle.std.proofs.Common.{◌≡◌, inl, inr, refl, ◌⊎◌, sym, ap, ◌∙◌, subst, ℕ, zero, suc, ◌+◌, ◌<◌, ◌≤◌, Bool, true, false, Option, None, Some, List, [], ◌∷◌, length, slice_get, arith}
+use Rattle.std.proofs.Common.{◌≡◌, inl, inr, refl, ◌⊎◌, sym, ap, ◌∙◌, subst, ℕ, zero, suc, ◌+◌, ◌<◌, ◌≤◌, Bool, true, false, Option, None, Some, List, [], ◌∷◌, length, slice_get, max, arith}
 use Rattle.std.specs.Prelude.{slice_set, All, if◌then◌else◌}
 use Rattle.std.proofs.lemmas.Bool.{cases_lt}
+use Rattle.std.proofs.lemmas.List.{length-set}
 use Rattle.std.proofs.lemmas.Option.{slice_get_within, get_or_from_slice_get}
 use Rattle.il_core.specs.Procedure.{Procedure}
 use Rattle.il_core.specs.declared.line.Next.{Next}
@@ -17,7 +18,7 @@ use Rattle.test_graph.specs.declared.graph.TestGraph.{TestGraph}
 use Rattle.region_paths.specs.Region.{is_head, leading_of}
 use Rattle.region_paths.specs.PathTree.{PathTree, grafted, below, leading_tree, tree_to}
 use Rattle.region_paths.specs.Walk.{region_tree_of}
-use Rattle.region_paths.specs.Count.{leaves, capped, counted, IsHeadCount, AreHeadCounts, CountAtLeast, CountAtMost}
+use Rattle.region_paths.specs.Count.{leaves, capped, counted, IsHeadCount, AreHeadCounts, CountAtLeast, CountAtMost, IsRaised}
 use Rattle.region_paths.proofs.Nodes.{at_test, at_assign, at_line, at_stop}
 use Rattle.region_paths.proofs.Walking.{beyond, at_head, at_other, line_unfolds}
 use Rattle.region_paths.proofs.Counts.{leaves_some, there, node_inside}
@@ -245,3 +246,38 @@ pub same_counts : (p : Procedure) (loops : List LoopInfo) (g : TestGraph) (old c
     → ((n : ℕ) → CountAtLeast p loops g n 0 old → CountAtLeast p loops g (suc n) 0 counts) → (k : ℕ) → CountAtLeast p loops g k 0 counts
 same_counts p loops g old counts r e l step k =
     climb p loops g counts r (subst (CountAtLeast p loops g r 0) (sym e) l) (λ n x. step n (subst (CountAtLeast p loops g n 0) e x)) k
+
+-- one count that is raised
+pub raised_put : (p : Procedure) (g : TestGraph) (heads : List (Option ℕ)) (id c x y : ℕ) (counts : List ℕ) → slice_get counts id ≡ Some x → c ≡ max y x
+    → ((loops : List LoopInfo) (n : ℕ) (d : Decision) → AreHeadCounts p loops heads → CountAtMost p loops g n counts → Unfolds g.nodes g.entries id d → y ≤ counted p loops (suc n) d)
+    → IsRaised p g heads counts (slice_set counts id c)
+raised_put p g heads id c x y counts there f new = record { size = length-set counts id c; least = least; most = most }
+  where
+    least : (loops : List LoopInfo) (n : ℕ) → CountAtLeast p loops g n 0 counts → CountAtLeast p loops g n 0 (slice_set counts id c)
+    least loops n l = record { each = each; more = λ k d z low u e. absurd (omega (arith, low)) }
+      where
+        own : (k z : ℕ) (d : Decision) → Unfolds g.nodes g.entries k d → (k ≡ id) × (z ≡ c) → counted p loops n d ≤ z
+        own k z d u h = omega (arith, h.1, f, l.each id d x (subst (λ (j : ℕ). Unfolds g.nodes g.entries j d) h.0 u) there)
+
+        each : (k : ℕ) (d : Decision) (z : ℕ) → Unfolds g.nodes g.entries k d → slice_get (slice_set counts id c) k ≡ Some z → counted p loops n d ≤ z
+        each k d z u e = elim (set_cases counts id c k z e) [
+          | inl h ↦ own k z d u h
+          | inr h ↦ l.each k d z u h.1
+        ]
+
+    most : (loops : List LoopInfo) (n : ℕ) → AreHeadCounts p loops heads → CountAtMost p loops g n counts → (m : ℕ) × CountAtMost p loops g m (slice_set counts id c)
+    most loops n h m = (
+      suc n,
+      put_most p loops g n id c counts m
+          (λ d u. omega (arith, f, new loops n d h m u, m.each id d x u there, counted_more p loops n d)),
+    )
+
+pub raised_self : (p : Procedure) (g : TestGraph) (heads : List (Option ℕ)) (counts : List ℕ) → IsRaised p g heads counts counts
+raised_self p g heads counts = record { size = refl; least = λ loops n l. l; most = λ loops n h m. (n, m) }
+
+pub raised_on : (p : Procedure) (g : TestGraph) (heads : List (Option ℕ)) (a b c : List ℕ) → IsRaised p g heads a b → IsRaised p g heads b c → IsRaised p g heads a c
+raised_on p g heads a b c x y = record {
+  size = y.size ∙ x.size;
+  least = λ loops n l. y.least loops n (x.least loops n l);
+  most = λ loops n h m. let k = x.most loops n h m in y.most loops k.0 h k.1;
+}

@@ -73,3 +73,9 @@ pub record CountAtLeast (p : Procedure) (loops : List LoopInfo) (g : TestGraph) 
 -- no node counts more than the paths of n lines
 pub record CountAtMost (p : Procedure) (loops : List LoopInfo) (g : TestGraph) (n : ℕ) (counts : List ℕ) : Type 0 where
   pub each : (id : ℕ) (d : Decision) (c : ℕ) → Unfolds g.nodes g.entries id d → slice_get counts id ≡ Some c → c ≤ counted p loops n d
+
+-- counts some of which were raised, and none above the paths
+pub record IsRaised (p : Procedure) (g : TestGraph) (heads : List (Option ℕ)) (old new : List ℕ) : Type 0 where
+  pub size : length new ≡ length old
+  pub least : (loops : List LoopInfo) (n : ℕ) → CountAtLeast p loops g n 0 old → CountAtLeast p loops g n 0 new
+  pub most : (loops : List LoopInfo) (n : ℕ) → AreHeadCounts p loops heads → CountAtMost p loops g n old → (m : ℕ) × CountAtMost p loops g m new

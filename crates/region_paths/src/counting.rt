@@ -13,7 +13,7 @@ ghost use Rattle.region_paths.specs.Region.{first_lines};
 ghost use Rattle.region_paths.specs.PathTree.{leading_tree, long_tree};
 ghost use Rattle.region_paths.specs.Walk.{AreLines, LeadInside};
 ghost use Rattle.region_paths.specs.Count as count;
-ghost use Rattle.region_paths.specs.Count.{leaves, capped, counted, IsFew, IsOne, IsFewHead, IsFewWays, AreWaysOf, AreNodeWays, AreHeadCounts, CountAtLeast, CountAtMost};
+ghost use Rattle.region_paths.specs.Count.{leaves, capped, counted, IsFew, IsOne, IsFewHead, IsFewWays, AreWaysOf, AreNodeWays, AreHeadCounts, CountAtLeast, CountAtMost, IsRaised};
 
 use crate::walk::{first_node, leading_at, loop_of};
 use control_flow::{Control, LoopInfo};
@@ -248,9 +248,100 @@ fn recount(proc: &CheckedProc, graph: &TestGraph, heads: &[Option<u64>], counts:
     changed
 }
 
-/// Counts each node round by round until a round changes nothing. No path comes to a line twice, so there is at most one
+/// The number behind the first node of a line, of which this is the entry.
+fn behind_first(graph: &TestGraph, entry: usize) -> usize {
+    match graph.nodes.get(entry) {
+        Some(TestNode::AtLine(_, first)) => first.saturating_add(1),
+        _ => 0,
+    }
+}
+
+/// For each line a number behind which its own nodes stand, where the lines were lowered one after the other. It only
+/// tells the order in which counts are raised.
+fn line_starts(alloc: Global, graph: &TestGraph) -> Result<Vec<usize>, NoMemory> {
+    let entries = graph.entries.as_slice();
+    let mut starts = Vec::with_capacity(alloc, entries.len())?;
+    let mut next = entries.len();
+    for entry in entries {
+        starts.push(next)?;
+        next = next.max(behind_first(graph, *entry));
+    }
+    Ok(starts)
+}
+
+/// Raises the count of node `id` to what the counts that stand give.
+fn raise_node(
+    proc: &CheckedProc,
+    graph: &TestGraph,
+    heads: &[Option<u64>],
+    id: usize,
+    counts: &mut [u64],
+)
+    requires lowered { IsLowered (procedure_of proc.now) graph.now }
+    requires there { id < length graph.now.nodes }
+    requires size { length counts.old ≡ length graph.now.nodes }
+    requires few { All IsFew counts.old }
+    requires few_heads { All IsFewHead heads.now }
+    ensures few { All IsFew counts.new }
+    ensures raised { IsRaised (procedure_of proc.now) graph.now heads.now counts.old counts.new }
+{
+    let count = count_at(proc, graph, heads, counts, id).max(counts[id]);
+    counts[id] = count;
+}
+
+/// Raises the counts of the nodes from one on up to another, in ascending order.
+fn raise_nodes(
+    proc: &CheckedProc,
+    graph: &TestGraph,
+    heads: &[Option<u64>],
+    start: usize,
+    end: usize,
+    counts: &mut [u64],
+)
+    requires lowered { IsLowered (procedure_of proc.now) graph.now }
+    requires size { length counts.old ≡ length graph.now.nodes }
+    requires few { All IsFew counts.old }
+    requires few_heads { All IsFewHead heads.now }
+    ensures few { All IsFew counts.new }
+    ensures raised { IsRaised (procedure_of proc.now) graph.now heads.now counts.old counts.new }
+{
+    for id in start..end.min(counts.len()) {
+        raise_node(proc, graph, heads, id, counts);
+    }
+}
+
+/// Raises the counts of the nodes of each line, from the last line to the first, since most ways go forward.
+fn raise_lines(
+    proc: &CheckedProc,
+    graph: &TestGraph,
+    heads: &[Option<u64>],
+    starts: &[usize],
+    counts: &mut [u64],
+)
+    requires lowered { IsLowered (procedure_of proc.now) graph.now }
+    requires size { length counts.old ≡ length graph.now.nodes }
+    requires few { All IsFew counts.old }
+    requires few_heads { All IsFewHead heads.now }
+    ensures few { All IsFew counts.new }
+    ensures raised { IsRaised (procedure_of proc.now) graph.now heads.now counts.old counts.new }
+{
+    let mut end = counts.len();
+    for line in (0..starts.len()).rev() {
+        raise_nodes(proc, graph, heads, starts[line], end, counts);
+        raise_nodes(proc, graph, heads, line, line.saturating_add(1), counts);
+        end = starts[line];
+    }
+}
+
+/// Counts the nodes round by round until a round changes nothing. No path comes to a line twice, so there is at most one
 /// round more than there are lines.
-fn settle(proc: &CheckedProc, graph: &TestGraph, heads: &[Option<u64>], counts: &mut [u64])
+fn settle(
+    proc: &CheckedProc,
+    graph: &TestGraph,
+    heads: &[Option<u64>],
+    starts: &[usize],
+    counts: &mut [u64],
+)
     requires lowered { IsLowered (procedure_of proc.now) graph.now }
     requires size { length counts.old ≡ length graph.now.nodes }
     requires ones { All IsOne counts.old }
@@ -261,6 +352,7 @@ fn settle(proc: &CheckedProc, graph: &TestGraph, heads: &[Option<u64>], counts: 
     ensures most { (loops : List LoopInfo) → AreHeadCounts (procedure_of proc.now) loops heads.now → (m : ℕ) × CountAtMost (procedure_of proc.now) loops graph.now m counts.new }
 {
     for _round in 0..proc.lines().len() + 1 {
+        raise_lines(proc, graph, heads, starts, counts);
         if !recount(proc, graph, heads, counts) {
             return;
         }
@@ -282,15 +374,18 @@ fn node_counts(
     ensures most { IfOk result (λ counts. (loops : List LoopInfo) → AreHeadCounts (procedure_of proc.now) loops heads.now → (m : ℕ) × CountAtMost (procedure_of proc.now) loops graph.now m counts.items) }
 {
     let mut counts = vec![in alloc; 1; graph.nodes.len()]?;
-    settle(proc, graph, heads, &mut counts);
+    let starts = line_starts(alloc, graph)?;
+    settle(proc, graph, heads, &starts, &mut counts);
     Ok(counts)
 }
 
 /// How many long paths the region of line `pc` has, counted up to 16,385.
 ///
-/// It counts the paths from each node on, from the ends: the nodes are counted in rounds, each in ascending order, so
-/// that the counts of the nodes that a test or an assignment names stand before its own. There are at most two rounds
-/// more than the longest path has lines. It does not recurse, and takes memory for the nodes and the lines.
+/// It counts the paths from each node on, from the ends, in rounds over the nodes: a test has the paths of both its sides,
+/// a line those of its first node, a head those through its leading assertions. Each round first takes the lines from
+/// the last to the first, and then all nodes in ascending order; it ends where that changes nothing. So a region whose
+/// ways go forward takes one round, and none takes more than there are lines and one. It does not recurse, and takes
+/// memory for the nodes and the lines.
 pub fn path_count(
     alloc: Global,
     proc: &CheckedProc,

@@ -23,18 +23,18 @@ loop-round-preserved c = record {
   few = c.recount.ensures.few;
   least = λ loops h.
       let e : c.loop-round._round + 1 ≡ suc c.loop-round._round = omega arith in
-      rw e (c.recount.ensures.least loops c.loop-round._round h (c.loop-round.invariant.least loops h));
-  most = λ loops h. let m = c.loop-round.invariant.most loops h in c.recount.ensures.most loops m.0 h m.1;
+      rw e (c.recount.ensures.least loops c.loop-round._round h (c.raise_lines.ensures.raised.least loops c.loop-round._round (c.loop-round.invariant.least loops h)));
+  most = λ loops h. let k = c.loop-round.invariant.most loops h in let m = c.raise_lines.ensures.raised.most loops k.0 h k.1 in c.recount.ensures.most loops m.0 h m.1;
 }
 
 pub returns-then-not-recount-clause-least : goal.returns-then-not-recount-clause-least
 returns-then-not-recount-clause-least c = λ loops h.
-    same_counts (procedure_of c.args.proc.now) loops c.args.graph.now c.loop-round.counts c.recount.new.counts c.loop-round._round
-    (told c.recount.result (c.recount.new.counts ≡ c.loop-round.counts) c.if-not-recount.true c.recount.ensures.same)
-    (c.loop-round.invariant.least loops h) (λ n l. c.recount.ensures.least loops n h l) (suc (length c.args.proc.now.lines))
+    same_counts (procedure_of c.args.proc.now) loops c.args.graph.now c.raise_lines.new.counts c.recount.new.counts c.loop-round._round
+    (told c.recount.result (c.recount.new.counts ≡ c.raise_lines.new.counts) c.if-not-recount.true c.recount.ensures.same)
+    (c.raise_lines.ensures.raised.least loops c.loop-round._round (c.loop-round.invariant.least loops h)) (λ n l. c.recount.ensures.least loops n h l) (suc (length c.args.proc.now.lines))
 
 pub returns-then-not-recount-clause-most : goal.returns-then-not-recount-clause-most
-returns-then-not-recount-clause-most c = λ loops h. let m = c.loop-round.invariant.most loops h in c.recount.ensures.most loops m.0 h m.1
+returns-then-not-recount-clause-most c = λ loops h. let k = c.loop-round.invariant.most loops h in let m = c.raise_lines.ensures.raised.most loops k.0 h k.1 in c.recount.ensures.most loops m.0 h m.1
 
 pub returns-clause-least : goal.returns-clause-least
 returns-clause-least c = λ loops h.
