@@ -216,8 +216,8 @@ head_first x rest line e = by_test (nat_eq x.head line) (eq-eqb x.head line e)
 -- the loop of a head, where those before it are others'
 pub head_here : (loops : List LoopInfo) (k line : ℕ) (x : LoopInfo) → slice_get loops k ≡ Some x → x.head ≡ line → is_head loops line ≡ is_head (drop k loops) line
     → leading_of loops line ≡ leading_of (drop k loops) line
-    → (l : LoopInfo) × (slice_get loops k ≡ Some l) × (is_head loops line ≡ true) × (leading_of loops line ≡ l.leading)
+    → (l : LoopInfo) × (slice_get loops k ≡ Some l) × (is_head loops line ≡ true) × (leading_of loops line ≡ l.leading) × (l.head ≡ line)
 head_here loops k line x e h m n =
     let t = drop_at loops k x e in
     let f = head_first x t.0 line h in
-    (x, e, m ∙ ap (λ (z : List LoopInfo). is_head z line) t.1 ∙ f.0, n ∙ ap (λ (z : List LoopInfo). leading_of z line) t.1 ∙ f.1)
+    (x, e, m ∙ ap (λ (z : List LoopInfo). is_head z line) t.1 ∙ f.0, n ∙ ap (λ (z : List LoopInfo). leading_of z line) t.1 ∙ f.1, h)

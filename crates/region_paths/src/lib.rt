@@ -16,4 +16,4 @@ pub use laws::{
 };
 pub use limit::Limit;
 pub use sizing::size;
-pub use walk::first_node;
+pub use walk::{first_node, leading_at, loop_of};

@@ -36,8 +36,8 @@ pub fn first_node(proc: &CheckedProc, graph: &TestGraph, line: usize) -> usize
 }
 
 /// The loop of which a line is the head.
-fn loop_of(loops: &[LoopInfo], line: usize) -> Option<usize>
-    ensures { MatchOption result (region.is_head loops.now line ≡ false) (λ k. (l : LoopInfo) × (slice_get loops.now k ≡ Some l) × (region.is_head loops.now line ≡ true) × (region.leading_of loops.now line ≡ l.leading)) }
+pub fn loop_of(loops: &[LoopInfo], line: usize) -> Option<usize>
+    ensures { MatchOption result (region.is_head loops.now line ≡ false) (λ k. (l : LoopInfo) × (slice_get loops.now k ≡ Some l) × (region.is_head loops.now line ≡ true) × (region.leading_of loops.now line ≡ l.leading) × (l.head ≡ line)) }
 {
     for at in 0..loops.len() {
         if loops[at].head == line {
@@ -48,7 +48,7 @@ fn loop_of(loops: &[LoopInfo], line: usize) -> Option<usize>
 }
 
 /// The leading assertions of the loop at an index.
-fn leading_at(loops: &[LoopInfo], at: usize) -> &[usize]
+pub fn leading_at(loops: &[LoopInfo], at: usize) -> &[usize]
     requires { at < length loops.now }
     ensures { (l : LoopInfo) → slice_get loops.now at ≡ Some l → result.now ≡ l.leading }
 {
