@@ -19,3 +19,4 @@ pub mod Judged
 pub mod Told
 pub mod BadPaths
 pub mod Regions
+pub mod Named

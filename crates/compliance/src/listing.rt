@@ -15,7 +15,8 @@ ghost use Rattle.semantic_tables.specs.Row.{row_of, normal_row};
 ghost use Rattle.semantic_tables.specs.Fit.{HasSoundLiterals};
 ghost use Rattle.compliance.specs.Behind as behind;
 ghost use Rattle.compliance.specs.Behind.{IsThreatRow, is_bad_behind, AddsRegion, AddsTold};
-ghost use Rattle.compliance.specs.Safe.{AreThreatsOf, IsSafeWhereRefuted};
+ghost use Rattle.compliance.specs.Safe.{AreThreatsOf, IsSafeWhereRefuted, NamesItsLiteral};
+ghost use Rattle.compliance.specs.declared.threat.Threat as the_threat;
 
 use crate::judging::judged;
 use crate::laws::refuted_lists_mean_no_bad_run;
@@ -107,6 +108,7 @@ pub fn threats(
     requires shape { control.now.shape ≡ Reducible }
     requires derivation { IsDerivationOf (graph_of (procedure_of proc.now)) control.now.shape derivation.now }
     ensures threats { IfOk result (λ ts. AreThreatsOf (procedure_of proc.now) control.now.loops (first_lines control.now.loops) ts) }
+    ensures named { IfOk result (λ ts. (t : the_threat.Threat) → IsIn ts t → NamesItsLiteral t) }
     ensures safe { IfOk result (λ ts. IsSafeWhereRefuted (procedure_of proc.now) control.now.loops ts) }
 {
     told_checked(proc);

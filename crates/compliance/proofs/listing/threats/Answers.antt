@@ -5,6 +5,7 @@ use Rattle.control_flow.specs.Control.{IsShape}
 use Rattle.flow_graph.specs.Graph.{graph_of}
 use Rattle.region_paths.specs.Region.{AreRegions, first_lines}
 use Rattle.compliance.specs.Safe.{AreThreatsOf}
+use Rattle.compliance.proofs.Named.{named}
 use Rattle.compliance.proofs.Regions.{start_leads_none, head_first, loop_leads, region_more}
 use Rattle.compliance.proofs.listing.threats.Goals as goal
 
@@ -47,3 +48,11 @@ returns-clause-safe c =
     take_all c.loop-info.info-index c.args.control.now.loops (omega (arith, past, ap length c.as_slice-info-items.ensures)) in
     let ts = subst (λ xs. AreThreatsOf (procedure_of c.args.proc.now) c.args.control.now.loops (first_lines xs) c.loop-info.found) all c.loop-info.invariant in
     c.refuted_lists_mean_no_bad_run.ensures (procedure_of c.args.proc.now) c.args.control.now.loops c.loop-info.found c.told_checked.ensures regions ts
+
+pub returns-clause-named : goal.returns-clause-named
+returns-clause-named c =
+    let past = c.loop-info-test.false in
+    let all : take c.loop-info.info-index c.args.control.now.loops ≡ c.args.control.now.loops =
+    take_all c.loop-info.info-index c.args.control.now.loops (omega (arith, past, ap length c.as_slice-info-items.ensures)) in
+    let ts = subst (λ xs. AreThreatsOf (procedure_of c.args.proc.now) c.args.control.now.loops (first_lines xs) c.loop-info.found) all c.loop-info.invariant in
+    λ t i. named (procedure_of c.args.proc.now) c.args.control.now.loops (first_lines c.args.control.now.loops) c.loop-info.found t ts i
