@@ -1,12 +1,12 @@
-//! The control structure of graphs that are written out.
-use crate::drawn::{endless, straight, twice_entered};
+//! The control structure of graphs.
+use crate::texts::{ENDLESS, STRAIGHT, TWICE_ENTERED, graph_of};
 use control_flow::{Control, Shape, control_of, reducible_cycles_hold_a_head};
 use std::test::Fail;
 
 #[test]
 fn straight_lines_are_reducible(rt: HostRuntime) -> Result<(), Fail> {
     reducible_cycles_hold_a_head();
-    let graph = straight(rt.alloc())?;
+    let graph = graph_of(rt.alloc(), STRAIGHT)?;
     let control = control_of(rt.alloc(), &graph)?;
     assert!(rt; control.unreachable.is_empty() && control.stuck.is_empty());
     assert!(rt; control.loops.is_empty() && matches!(control.shape, Shape::Reducible));
@@ -15,7 +15,7 @@ fn straight_lines_are_reducible(rt: HostRuntime) -> Result<(), Fail> {
 
 #[test]
 fn an_endless_loop_is_stuck(rt: HostRuntime) -> Result<(), Fail> {
-    let graph = endless(rt.alloc())?;
+    let graph = graph_of(rt.alloc(), ENDLESS)?;
     let control = control_of(rt.alloc(), &graph)?;
     assert_eq!(rt; control.unreachable.as_slice(), [4].as_slice());
     assert_eq!(rt; control.stuck.as_slice(), [0, 1, 2, 3].as_slice());
@@ -30,7 +30,7 @@ fn an_endless_loop_is_stuck(rt: HostRuntime) -> Result<(), Fail> {
 
 #[test]
 fn a_jump_into_a_loop_is_shown(rt: HostRuntime) -> Result<(), Fail> {
-    let graph = twice_entered(rt.alloc())?;
+    let graph = graph_of(rt.alloc(), TWICE_ENTERED)?;
     let Control {
         unreachable,
         stuck,
