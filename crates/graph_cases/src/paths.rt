@@ -1,100 +1,78 @@
 //! All paths of graphs.
-ghost use Rattle.flow_graph.specs.Graph.{IsWellFormed};
-
 use crate::texts::{ENDLESS, STRAIGHT, graph_of, order_of};
-use flow_graph::FlowGraph;
-use path_expr::{Def, PathReport, Ref, paths};
+use path_expr::{Def, Ref, paths};
 use std::alloc::Global;
 use std::test::Fail;
 
-/// The paths of a graph, by the order in which its lines are taken.
-fn paths_of(alloc: Global, graph: &FlowGraph) -> Result<PathReport, Fail>
-    requires { IsWellFormed graph.now }
-{
-    let order = order_of(alloc, graph)?;
-    Ok(paths(alloc, graph, order.as_slice())?)
+/// A body, the definitions, and what all paths are.
+type Case<'a> = (&'a str, &'a [Def], Ref);
+
+/// Whether the paths of the graph of a case are those of the case.
+fn is_as(alloc: Global, case: &Case) -> Result<bool, Fail> {
+    let (body, defs, whole) = case;
+    let graph = graph_of(alloc, body)?;
+    let order = order_of(alloc, &graph)?;
+    let report = paths(alloc, &graph, order.as_slice())?;
+    Ok(report.defs.as_slice() == *defs && report.whole == *whole)
 }
 
-/// The lines are taken in the order 1, 4, 5, 6, 3, and arc 3 leaves a line that is not reached.
 #[test]
-fn a_loop_is_written_over_the_arcs_of_reachable_lines(rt: HostRuntime) -> Result<(), Fail> {
-    let graph = graph_of(rt.alloc(), "GOTO a;SKIP;LABEL a;IF x = 1;GOTO a;ENDIF;")?;
-    let report = paths_of(rt.alloc(), &graph)?;
-    let wanted = [
-        Def::Product(Ref::Arc(1), Ref::Arc(2)),
-        Def::Product(Ref::Arc(4), Ref::Arc(5)),
-        Def::Product(Ref::Arc(4), Ref::Arc(6)),
-        Def::Product(Ref::Def(2), Ref::Arc(7)),
-        Def::Product(Ref::Def(3), Ref::Arc(8)),
-        Def::Star(Ref::Def(4)),
-        Def::Product(Ref::Def(1), Ref::Def(6)),
-        Def::Product(Ref::Def(7), Ref::Def(5)),
+fn worked_paths(rt: HostRuntime) -> Result<(), Fail> {
+    let cases: [Case; 6] = [
+        // The smallest graph has one path.
+        ("", &[], Ref::Arc(1)),
+        // A straight procedure is one product.
+        (
+            STRAIGHT,
+            &[
+                Def::Product(Ref::Arc(1), Ref::Arc(2)),
+                Def::Product(Ref::Def(1), Ref::Arc(3)),
+                Def::Product(Ref::Def(2), Ref::Arc(4)),
+            ],
+            Ref::Def(3),
+        ),
+        // Two ways are a sum.
+        (
+            "IF x = 1;y := x;ENDIF;",
+            &[
+                Def::Product(Ref::Arc(1), Ref::Arc(2)),
+                Def::Product(Ref::Arc(1), Ref::Arc(3)),
+                Def::Product(Ref::Def(1), Ref::Arc(4)),
+                Def::Sum(Ref::Def(2), Ref::Def(3)),
+                Def::Product(Ref::Def(4), Ref::Arc(5)),
+            ],
+            Ref::Def(5),
+        ),
+        // The lines are taken in the order 1, 4, 5, 6, 3, and arc 3 leaves a line that is not reached.
+        (
+            "GOTO a;SKIP;LABEL a;IF x = 1;GOTO a;ENDIF;",
+            &[
+                Def::Product(Ref::Arc(1), Ref::Arc(2)),
+                Def::Product(Ref::Arc(4), Ref::Arc(5)),
+                Def::Product(Ref::Arc(4), Ref::Arc(6)),
+                Def::Product(Ref::Def(2), Ref::Arc(7)),
+                Def::Product(Ref::Def(3), Ref::Arc(8)),
+                Def::Star(Ref::Def(4)),
+                Def::Product(Ref::Def(1), Ref::Def(6)),
+                Def::Product(Ref::Def(7), Ref::Def(5)),
+            ],
+            Ref::Def(8),
+        ),
+        // The first step of the plan, the way into the loop, and the star of the loop are used by no definition.
+        (
+            "IF x = 1;LOOP;ENDLOOP;ENDIF;",
+            &[
+                Def::Product(Ref::Arc(1), Ref::Arc(3)),
+                Def::Product(Ref::Def(1), Ref::Arc(6)),
+            ],
+            Ref::Def(2),
+        ),
+        // The last line is not reached.
+        (ENDLESS, &[], Ref::Zero),
     ];
-    assert_eq!(rt; report.defs.as_slice(), wanted.as_slice());
-    assert_eq!(rt; report.whole, Ref::Def(8));
-    Ok(())
-}
-
-/// The first step of the plan, the way into the loop, and the star of the loop are used by no definition.
-#[test]
-fn steps_that_the_answer_does_not_use_are_left_out(rt: HostRuntime) -> Result<(), Fail> {
-    let graph = graph_of(rt.alloc(), "IF x = 1;LOOP;ENDLOOP;ENDIF;")?;
-    let report = paths_of(rt.alloc(), &graph)?;
-    let wanted = [
-        Def::Product(Ref::Arc(1), Ref::Arc(3)),
-        Def::Product(Ref::Def(1), Ref::Arc(6)),
-    ];
-    assert_eq!(rt; report.defs.as_slice(), wanted.as_slice());
-    assert_eq!(rt; report.whole, Ref::Def(2));
-    Ok(())
-}
-
-#[test]
-fn two_ways_are_a_sum(rt: HostRuntime) -> Result<(), Fail> {
-    let graph = graph_of(rt.alloc(), "IF x = 1;y := x;ENDIF;")?;
-    let report = paths_of(rt.alloc(), &graph)?;
-    let wanted = [
-        Def::Product(Ref::Arc(1), Ref::Arc(2)),
-        Def::Product(Ref::Arc(1), Ref::Arc(3)),
-        Def::Product(Ref::Def(1), Ref::Arc(4)),
-        Def::Sum(Ref::Def(2), Ref::Def(3)),
-        Def::Product(Ref::Def(4), Ref::Arc(5)),
-    ];
-    assert_eq!(rt; report.defs.as_slice(), wanted.as_slice());
-    assert_eq!(rt; report.whole, Ref::Def(5));
-    Ok(())
-}
-
-#[test]
-fn a_straight_procedure_is_one_product(rt: HostRuntime) -> Result<(), Fail> {
-    let graph = graph_of(rt.alloc(), STRAIGHT)?;
-    let report = paths_of(rt.alloc(), &graph)?;
-    let wanted = [
-        Def::Product(Ref::Arc(1), Ref::Arc(2)),
-        Def::Product(Ref::Def(1), Ref::Arc(3)),
-        Def::Product(Ref::Def(2), Ref::Arc(4)),
-    ];
-    assert_eq!(rt; report.defs.as_slice(), wanted.as_slice());
-    assert_eq!(rt; report.whole, Ref::Def(3));
-    Ok(())
-}
-
-/// The last line is not reached.
-#[test]
-fn a_loop_that_never_ends_is_zero(rt: HostRuntime) -> Result<(), Fail> {
-    let graph = graph_of(rt.alloc(), ENDLESS)?;
-    let report = paths_of(rt.alloc(), &graph)?;
-    assert_eq!(rt; report.defs.len(), 0);
-    assert_eq!(rt; report.whole, Ref::Zero);
-    Ok(())
-}
-
-#[test]
-fn the_smallest_graph_has_one_path(rt: HostRuntime) -> Result<(), Fail> {
-    let graph = graph_of(rt.alloc(), "")?;
-    assert_eq!(rt; graph.nodes.len(), 2);
-    let report = paths_of(rt.alloc(), &graph)?;
-    assert_eq!(rt; report.defs.len(), 0);
-    assert_eq!(rt; report.whole, Ref::Arc(1));
+    for case in cases.iter() {
+        let (body, _, _) = case;
+        assert!(rt; is_as(rt.alloc(), case)?, "{body}");
+    }
     Ok(())
 }

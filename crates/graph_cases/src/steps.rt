@@ -1,36 +1,16 @@
 //! Steps and runs of the line machine.
-ghost use Rattle.std.specs.Prelude.{◌≤ℤ◌, IsTrue, slice_get, Some};
+ghost use Rattle.std.specs.Prelude.{IsTrue};
 ghost use Rattle.il_core.specs.Procedure.{instruction_of};
 ghost use Rattle.il_core.specs.LineGraph.{heads_of};
-ghost use Rattle.il_core.specs.Run.{IsInRange};
 ghost use Rattle.line_machine.specs.Cut.{IsMarked};
 ghost use Rattle.line_machine.specs.Arcs.{LeadOn, LinesLeadOn};
 
 use crate::texts::accepted;
-use il_core::{CheckedProc, Halt, Line, Next, Place, Stop};
+use case_values::is_in_range;
+use il_core::{CheckedProc, Halt, Line, Next, Stop};
 use line_machine::{run_to_cut, step};
 use std::process::Abort;
 use std::test::Fail;
-
-fn is_value_of(place: &Place, value: i64) -> bool
-    ensures { IsTrue result → (place.now.least ≤ℤ value) × (value ≤ℤ place.now.greatest) }
-{
-    place.least <= value && value <= place.greatest
-}
-
-fn is_in_range(places: &[Place], vals: &[i64]) -> bool
-    ensures { IsTrue result → IsInRange places.now vals.now }
-{
-    if vals.len() != places.len() {
-        return false;
-    }
-    for (index, place) in places.iter().enumerate() {
-        if !is_value_of(place, vals[index]) {
-            return false;
-        }
-    }
-    true
-}
 
 fn is_marked(cuts: &[bool], line: usize) -> bool
     ensures { IsTrue result → IsMarked cuts.now line }
@@ -78,8 +58,7 @@ LOOP;EXIT WHEN a DIV b = c;IF a DIV b = c;ELSE;GOTO out;ENDIF;ENDLOOP;LABEL out;
 
 /// The values of the variables, with 0 for each OLD copy.
 fn with_copies(vals: [i64; 5]) -> [i64; 8] {
-    let [a, b, c, f, w] = vals;
-    [a, b, c, f, w, 0, 0, 0]
+    [vals[0], vals[1], vals[2], vals[3], vals[4], 0, 0, 0]
 }
 
 /// The step from these values, and the values after it.
