@@ -7,7 +7,7 @@ use control_flow::{Shape, control_of};
 use flow_graph::{FlowGraph, build};
 use il_core::{CheckedText, List, NoMemory, TextEnd};
 use interval_reduce::derive;
-use malpas_suite::accept;
+use acceptance::accept;
 use std::alloc::Global;
 use std::test::Fail;
 

@@ -13,7 +13,7 @@ use control_flow::{Control, LoopInfo, Shape, control_of};
 use flow_graph::build;
 use il_core::{CheckedProc, NoMemory, TextEnd};
 use interval_reduce::{Derivation, derive};
-use malpas_suite::accept;
+use acceptance::accept;
 use semantic_tables::{TableOr, long_rows, table};
 use std::alloc::Global;
 use std::test::Fail;

@@ -4,7 +4,7 @@ use control_flow::{Shape, control_of};
 use flow_graph::build;
 use il_core::{CheckedProc, List, NoMemory};
 use interval_reduce::derive;
-use malpas_suite::accept;
+use acceptance::accept;
 use std::alloc::{AllocError, Global};
 use std::test::Fail;
 use test_graph::lower;
