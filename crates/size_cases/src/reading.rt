@@ -3,9 +3,9 @@ ghost use Rattle.std.specs.Prelude.{IfSome};
 ghost use Rattle.il_core.specs.LineGraph.{IsIn};
 ghost use Rattle.region_paths.specs.Region.{first_lines};
 
+use acceptance::accept;
 use control_flow::{Control, Shape, control_of};
 use flow_graph::build;
-use acceptance::accept;
 use region_paths::{Limit, size};
 use std::alloc::{AllocError, Global};
 use std::test::Fail;

@@ -9,11 +9,11 @@ ghost use Rattle.interval_reduce.specs.Derivation.{IsDerivationOf};
 ghost use Rattle.test_graph.specs.Lowered.{IsLowered};
 ghost use Rattle.region_paths.specs.Region.{first_lines};
 
+use acceptance::accept;
 use control_flow::{Control, LoopInfo, Shape, control_of};
 use flow_graph::build;
 use il_core::{CheckedProc, NoMemory, TextEnd};
 use interval_reduce::{Derivation, derive};
-use acceptance::accept;
 use semantic_tables::{TableOr, long_rows, table};
 use std::alloc::Global;
 use std::test::Fail;

@@ -1,10 +1,10 @@
 //! The threats of procedures that are read from texts.
+use acceptance::accept;
 use compliance::{Threat, Verdict, threats};
 use control_flow::{Shape, control_of};
 use flow_graph::build;
 use il_core::{CheckedProc, List, NoMemory};
 use interval_reduce::derive;
-use acceptance::accept;
 use std::alloc::{AllocError, Global};
 use std::test::Fail;
 use test_graph::lower;
