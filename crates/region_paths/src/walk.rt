@@ -1,5 +1,5 @@
 //! The walk down the tree of a region, over the nodes of the lowered graph: decision by decision, true first.
-ghost use Rattle.std.specs.Prelude.{◌≡◌, ℕ, ◌<◌, ◌≤◌, List, All, MatchOption, Some, true, false, length, map, slice_get};
+ghost use Rattle.std.specs.Prelude.{◌≡◌, ℕ, ◌<◌, ◌≤◌, List, All, length, map, slice_get};
 ghost use Rattle.std.specs.Bool.{OnTrue};
 ghost use Rattle.il_core.specs.LineGraph.{IsIn};
 ghost use Rattle.il_core.specs.Checked.{procedure_of, IsChecked};
@@ -8,10 +8,10 @@ ghost use Rattle.sym_terms.specs.Tree.{Tree};
 ghost use Rattle.sym_terms.specs.Measure.{measured, IsCapped};
 ghost use Rattle.test_graph.specs.Decision.{Decision, decision_at};
 ghost use Rattle.test_graph.specs.Lowered.{Unfolds, IsLowered};
-ghost use Rattle.region_paths.specs.Region as region;
 ghost use Rattle.region_paths.specs.Tally.{IsTally, IsGrown, outcome, tallied};
-ghost use Rattle.region_paths.specs.Walk.{StandsAt, AreLines, LeadInside, leading_tree_of, region_tree_of};
+ghost use Rattle.region_paths.specs.Walk.{StandsAt, AreLines, LeadInside, AreLoopsOf, leading_tree_of, region_tree_of};
 
+use crate::heads::loop_at;
 use crate::tally::{Tally, comparison_measure, exchange};
 use control_flow::LoopInfo;
 use il_core::CheckedProc;
@@ -34,18 +34,6 @@ pub fn first_node(proc: &CheckedProc, graph: &TestGraph, line: usize) -> usize
         },
         None => unreachable!(),
     }
-}
-
-/// The loop of which a line is the head.
-pub fn loop_of(loops: &[LoopInfo], line: usize) -> Option<usize>
-    ensures { MatchOption result (region.is_head loops.now line ≡ false) (λ k. (l : LoopInfo) × (slice_get loops.now k ≡ Some l) × (region.is_head loops.now line ≡ true) × (region.leading_of loops.now line ≡ l.leading)) }
-{
-    for at in 0..loops.len() {
-        if loops[at].head == line {
-            return Some(at);
-        }
-    }
-    None
 }
 
 /// The leading assertions of the loop at an index.
@@ -119,6 +107,7 @@ pub fn follow(
     proc: &CheckedProc,
     graph: &TestGraph,
     loops: &[LoopInfo],
+    heads: &[Option<usize>],
     id: usize,
     room: usize,
     env: &mut [TermMeasure],
@@ -128,6 +117,7 @@ pub fn follow(
     requires lowered { IsLowered (procedure_of proc.now) graph.now }
     requires stands { StandsAt (procedure_of proc.now) graph.now id }
     requires leading { LeadInside (procedure_of proc.now) loops.now }
+    requires heads { AreLoopsOf (procedure_of proc.now) loops.now heads.now }
     requires size { length env.old ≡ length proc.now.places }
     requires capped { All IsCapped env.old }
     requires tally { IsTally tally.old }
@@ -138,10 +128,10 @@ pub fn follow(
     match graph.nodes.get(id) {
         Some(TestNode::Test(literal, met, unmet)) => {
             let before = tally.paths;
-            if !follow(proc, graph, loops, *met, room, env, tally) {
+            if !follow(proc, graph, loops, heads, *met, room, env, tally) {
                 return false;
             }
-            if !follow(proc, graph, loops, *unmet, room, env, tally) {
+            if !follow(proc, graph, loops, heads, *unmet, room, env, tally) {
                 return false;
             }
             tally.meet(comparison_measure(literal, env), before);
@@ -151,7 +141,7 @@ pub fn follow(
             let size = measure(term, env);
             let was = exchange(env, *place, size);
             let before = tally.paths;
-            let within = follow(proc, graph, loops, *then, room, env, tally);
+            let within = follow(proc, graph, loops, heads, *then, room, env, tally);
             exchange(env, *place, was);
             if !within {
                 return false;
@@ -159,13 +149,13 @@ pub fn follow(
             tally.meet(size, before);
             true
         }
-        Some(TestNode::AtLine(line, first)) => match loop_of(loops, *line) {
+        Some(TestNode::AtLine(line, first)) => match loop_at(heads, *line) {
             Some(at) => follow_leading(proc, graph, id, leading_at(loops, at), env, tally),
             None => {
                 if room == 0 {
                     tally.add_path()
                 } else {
-                    follow(proc, graph, loops, *first, room - 1, env, tally)
+                    follow(proc, graph, loops, heads, *first, room - 1, env, tally)
                 }
             }
         },
