@@ -110,9 +110,10 @@ fn rows_within(
 ///
 /// It walks down the tree of decisions once: a comparison is substituted and brought to its form once for all paths that
 /// share it, and a prefix that is plainly refuted gives up all paths below it. A decision takes at most two solvings by
-/// `least_input`; a row takes as many steps as its literals and values have parts. The stack holds at most two calls for
-/// each decision of a path and one for each of its lines and assignments: with at most 16,384 paths, of which each
-/// decision begins another, about 33,000 for the decisions and two for each line.
+/// `least_input`; a row takes as many steps as its literals and values have parts. The stack holds two calls for each
+/// decision of a path and one for each of its lines and assignments. Each decision has another side with a path of its
+/// own, on which all decisions before it stand too, so by the limit on nodes a path has fewer than 1,450 decisions: with
+/// 1,000 lines that is less than 5,000 calls.
 pub fn table(
     alloc: Global,
     proc: &CheckedProc,
