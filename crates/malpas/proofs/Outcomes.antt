@@ -69,7 +69,7 @@ reported bytes left old new settled before now t (Some report) status at_end tex
         one_row = told.0.1.one_row;
         safe = told.0.1.safe;
         clean = clean old new settled before now t report status ends told.0;
-      equal_values = told.0.1.equal_values;
+        equal_values = told.0.1.equal_values;
       },
       part old new settled before now t report status ends,
     ),

@@ -11,7 +11,7 @@ use Rattle.il_edge.specs.Known.{SameTold, Appends, AppendsPrefix, IsSettled}
 use Rattle.report.specs.declared.report.ProcReport.{ProcReport}
 use Rattle.report.specs.declared.report.Report.{Report}
 use Rattle.report_text.specs.Report.{head_text, part_text, parts_text}
-use Rattle.report_text.proofs.Written.{prefix_behind}
+use Rattle.form_text.proofs.Written.{prefix_behind}
 use Rattle.report.specs.Headline.{IsTold}
 use Rattle.malpas.specs.Parts.{all, before_last, last_alone, text_with, first_text, next_text, SettledPast, KeepsParts, IsSettledBehind, AreSent, AreCut}
 
