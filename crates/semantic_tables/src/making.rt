@@ -119,13 +119,13 @@ pub fn table(
     proc: &CheckedProc,
     graph: &TestGraph,
     control: &Control,
-    _derivation: &Derivation,
+    derivation: &Derivation,
     pc: usize,
 ) -> Result<TableOr, NoMemory>
     requires lowered { IsLowered (procedure_of proc.now) graph.now }
     requires control { IsControlOf (graph_of (procedure_of proc.now)) control.now }
     requires shape { control.now.shape ≡ Reducible }
-    requires derivation { IsDerivationOf (graph_of (procedure_of proc.now)) control.now.shape _derivation.now }
+    requires derivation { IsDerivationOf (graph_of (procedure_of proc.now)) control.now.shape derivation.now }
     requires first { IsIn (first_lines control.now.loops) pc }
     ensures rows { IfOk result (IsTable (procedure_of proc.now) control.now.loops pc) }
     ensures one { IfOk result (OneRowEach (procedure_of proc.now) control.now.loops pc) }
@@ -146,13 +146,13 @@ pub fn long_rows(
     proc: &CheckedProc,
     graph: &TestGraph,
     control: &Control,
-    _derivation: &Derivation,
+    derivation: &Derivation,
     pc: usize,
 ) -> Result<TableOr, NoMemory>
     requires lowered { IsLowered (procedure_of proc.now) graph.now }
     requires control { IsControlOf (graph_of (procedure_of proc.now)) control.now }
     requires shape { control.now.shape ≡ Reducible }
-    requires derivation { IsDerivationOf (graph_of (procedure_of proc.now)) control.now.shape _derivation.now }
+    requires derivation { IsDerivationOf (graph_of (procedure_of proc.now)) control.now.shape derivation.now }
     requires first { IsIn (first_lines control.now.loops) pc }
     ensures rows { IfOk result (IsLongTable (procedure_of proc.now) control.now.loops pc) }
     ensures one { IfOk result (OneLongRowEach (procedure_of proc.now) control.now.loops pc) }
