@@ -1,7 +1,7 @@
 //! The text of what the suite answers. The text of a report is a head, a part for each procedure and an end, which is a
-//! line with the status: [`put_head`], [`put_part`] and [`put_end`] write them, and [`status_of`] tells the status. A
-//! part has the sections that are selected: the control structure with the reduction by intervals, the use of variables,
-//! the flow of information, the paths, and the table of a straight procedure. [`put_refusal`] writes the one line of a
+//! line with the status: [`put_head`], [`put_part`] and [`put_end`] write them. A part has the sections that are
+//! selected: the control structure with the reduction by intervals, the use of variables, the flow of information, the
+//! paths, and the tables of the regions. [`put_refusal`] writes the one line of a
 //! refused text, and [`put_words`] the one line that answers words that are not understood. Each text is a definition of
 //! its own, a list of bytes made of pieces: fixed words, names, and numbers by their decimal text. A call sends the
 //! pieces to a sink one after the other. It takes no memory, costs time linear in the text, leaves what is settled as it
@@ -16,12 +16,11 @@ mod part;
 mod paths;
 mod pieces;
 mod refusal;
-mod report;
-mod row;
 mod sections;
+mod selection;
 mod usage;
 
-pub use head::{put_end, put_head, status_of};
+pub use head::{put_end, put_head};
 pub use part::put_part;
 pub use refusal::{put_refusal, put_words};
-pub use report::{Analyses, ProcReport, Report, Selection};
+pub use selection::Selection;

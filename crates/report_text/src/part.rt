@@ -7,12 +7,13 @@ ghost use Rattle.report_text.specs.Sections.{control_text};
 
 use crate::control::put_control;
 use crate::pieces::put;
-use crate::report::{ProcReport, Selection};
 use crate::sections::{
     put_flow_section, put_paths_section, put_semantic_section, put_usage_section,
 };
+use crate::selection::Selection;
 use il_edge::{Failed, Sink};
 use itoa::Buffer;
+use report::ProcReport;
 
 #[tactic(auto, unfolding(crate::specs::Report::title_text))]
 fn put_title<K: Sink>(part: &ProcReport, sink: &mut K) -> Result<(), Failed>
@@ -108,8 +109,7 @@ fn put_chosen_semantic<K: Sink>(
 }
 
 /// Writes the part of a procedure: its line, and behind it the sections that are selected, in their order. For an
-/// irreducible procedure one line stands in place of each of the sections on use, flow and paths; the table is written
-/// for a straight procedure alone. `Failed` comes only where the sink's count of faults rose in this call, and then a
+/// irreducible procedure one line stands in place of each of the sections on use, flow, paths and tables. `Failed` comes only where the sink's count of faults rose in this call, and then a
 /// prefix of the part was written. It takes no memory, leaves what is settled as it was, and costs time linear in the
 /// text.
 #[tactic(auto, unfolding(crate::specs::Report::part_text))]

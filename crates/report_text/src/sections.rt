@@ -7,10 +7,9 @@ ghost use Rattle.report_text.specs.Report.{flow_section, paths_section, semantic
 use crate::flows::put_flows;
 use crate::paths::put_paths;
 use crate::pieces::put;
-use crate::report::ProcReport;
-use crate::row::put_row;
 use crate::usage::put_usage;
 use il_edge::{Failed, Sink};
+use report::ProcReport;
 
 /// Writes the section on the use of variables, or that it is not given for an irreducible procedure. `Failed` comes only
 /// where the sink's count of faults rose in this call, and then a prefix of the section was written. It costs time
@@ -56,7 +55,7 @@ pub(crate) fn put_paths_section<K: Sink>(part: &ProcReport, sink: &mut K) -> Res
     }
 }
 
-/// Writes the table of a straight procedure, and nothing for any other one. It fails as the section on use does.
+/// Writes the heading of the section on tables, or that it is not given. It fails as the section on use does.
 #[tactic(auto, unfolding(crate::specs::Report::semantic_section))]
 pub(crate) fn put_semantic_section<K: Sink>(part: &ProcReport, sink: &mut K) -> Result<(), Failed>
     ensures text { Writes (K.held sink.old) (K.held sink.new) result (semantic_section part.now) }
@@ -64,11 +63,8 @@ pub(crate) fn put_semantic_section<K: Sink>(part: &ProcReport, sink: &mut K) -> 
     ensures settled { K.settled sink.new ≡ K.settled sink.old }
     ensures cause { HasCause (K.faults sink.old) (K.faults sink.new) result }
 {
-    let Some(analyses) = &part.analyses else {
-        return Ok(());
-    };
-    match &analyses.row {
-        None => Ok(()),
-        Some(row) => put_row(part.places.as_slice(), row.as_slice(), sink),
+    match &part.analyses {
+        None => put(sink, &[b"SEMANTIC\nNOT REPORTED IRREDUCIBLE\n"]),
+        Some(_) => put(sink, &[b"SEMANTIC\n"]),
     }
 }

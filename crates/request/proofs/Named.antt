@@ -2,7 +2,7 @@
 use Rattle.std.proofs.Common.{◌≡◌, ℕ, Bool, true, false, ◌||◌, List, [], ◌∷◌, refl, sym, ◌∙◌, ap, if◌then◌else◌}
 use Rattle.std.specs.Prelude.{Option, Some, None, codes, bytes_eq, not}
 use Rattle.std.proofs.lemmas.Slice.Eq.{bytes_eq-Decides}
-use Rattle.report_text.specs.declared.report.Selection.{Selection}
+use Rattle.request.specs.declared.selection.Selection.{Selection}
 use Rattle.request.specs.declared.section.Section.{Section}
 use Rattle.request.specs.declared.section.Section.TheVariants.{Control, Usage, Flow, Paths, Semantic, Compliance}
 use Rattle.request.specs.Words.{section_word, named, selected, every_section}

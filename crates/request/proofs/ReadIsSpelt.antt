@@ -4,7 +4,7 @@ use Rattle.std.specs.Prelude.{Option, Some, None, codes, decimal, bytes_eq, IfSo
 use Rattle.std.specs.List.{flat_map}
 use Rattle.std.specs.Option.{option_and_then}
 use Rattle.std.proofs.lemmas.Slice.Eq.{bytes_eq-Decides}
-use Rattle.report_text.specs.declared.report.Selection.{Selection}
+use Rattle.request.specs.declared.selection.Selection.{Selection}
 use Rattle.request.specs.declared.asked.Asked.{Asked}
 use Rattle.request.specs.declared.asked.Number.{Number}
 use Rattle.request.specs.declared.asked.Number.TheVariants.{Untold, Due, Told}

@@ -1,7 +1,7 @@
 -- What words ask for is read from left to right: each word is a number where one is due, else it names a section, or brings the one number.
 use Rattle.std.specs.Prelude.{ℕ, zero, suc, Bool, true, ◌||◌, not, List, [], ◌∷◌, ◌++◌, codes, decimal, Option, None, Some, bytes_eq, if◌then◌else◌}
 use Rattle.std.specs.Option.{option_and_then}
-use Rattle.report_text.specs.declared.report.Selection.{Selection}
+use Rattle.request.specs.declared.selection.Selection.{Selection}
 use Rattle.request.specs.declared.asked.Asked.{Asked}
 use Rattle.request.specs.declared.asked.Number.{Number}
 use Rattle.request.specs.declared.asked.Number.TheVariants.{Untold, Due, Told}

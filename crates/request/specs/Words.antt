@@ -1,7 +1,7 @@
 -- Words spell a request where they are the spellings of wishes, one behind the other: of any sections, and of at most one number from 1 to 200.
 use Rattle.std.specs.Prelude.{◌≡◌, ℕ, ◌≤◌, Bool, true, false, List, [], ◌∷◌, ◌++◌, codes, decimal, Option, None, Some, IfSome}
 use Rattle.std.specs.List.{flat_map, list_any}
-use Rattle.report_text.specs.declared.report.Selection.{Selection}
+use Rattle.request.specs.declared.selection.Selection.{Selection}
 use Rattle.request.specs.declared.section.Section.{Section}
 use Rattle.request.specs.declared.section.Section.TheVariants.{Control, Usage, Flow, Paths, Semantic, Compliance}
 use Rattle.request.specs.declared.spelt.Request.{Request}

@@ -3,8 +3,8 @@ ghost use Rattle.request.specs.Reading.{after_word, begun, request_of, selection
 
 use crate::number::{joined_number, number_of};
 use crate::section::{Section, section_of};
+use crate::selection::Selection;
 use crate::spelt::Request;
-use report_text::Selection;
 
 /// What words tell of the number of a text that is to be made.
 #[derive(Clone, Copy)]

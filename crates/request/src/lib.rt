@@ -8,7 +8,9 @@ mod asked;
 mod number;
 mod reading;
 mod section;
+mod selection;
 mod spelt;
 
 pub use reading::{one_request, read_words};
+pub use selection::Selection;
 pub use spelt::Request;

@@ -1,4 +1,4 @@
-use report_text::Selection;
+use crate::selection::Selection;
 
 /// What the words of a command line ask for.
 #[derive(Clone, Copy, PartialEq, Eq)]

@@ -3,4 +3,6 @@
 #![tactic(auto)]
 
 #[cfg(test)]
+mod made_texts;
+#[cfg(test)]
 mod word_lists;

@@ -1,7 +1,6 @@
 //! Lists of words, and the requests that they spell.
 
-use report_text::Selection;
-use request::{Request, read_words};
+use request::{Request, Selection, read_words};
 use std::alloc::Global;
 use std::test::Fail;
 
