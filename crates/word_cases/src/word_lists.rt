@@ -22,7 +22,14 @@ const REPORTS: &[Asked<'_>] = &[
     (&["--use", "--flow"], "UF", 0),
     (&["--compliance", "--control", "--compliance"], "CM", 0),
     (
-        &["--control", "--use", "--flow", "--paths", "--semantic", "--compliance"],
+        &[
+            "--control",
+            "--use",
+            "--flow",
+            "--paths",
+            "--semantic",
+            "--compliance",
+        ],
         "CUFPSM",
         0,
     ),
