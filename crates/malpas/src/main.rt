@@ -5,7 +5,9 @@
 #![tactic(auto)]
 
 mod answer;
+mod made;
 mod reporting;
+mod source_text;
 #[cfg(test)]
 mod tests;
 mod top;

@@ -17,10 +17,9 @@ mod paths;
 mod pieces;
 mod refusal;
 mod sections;
-mod selection;
 mod usage;
 
 pub use head::{put_end, put_head};
 pub use part::put_part;
 pub use refusal::{put_refusal, put_words};
-pub use selection::Selection;
+pub use request::Selection;

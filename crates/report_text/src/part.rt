@@ -10,10 +10,10 @@ use crate::pieces::put;
 use crate::sections::{
     put_flow_section, put_paths_section, put_semantic_section, put_usage_section,
 };
-use crate::selection::Selection;
 use il_edge::{Failed, Sink};
 use itoa::Buffer;
 use report::ProcReport;
+use request::Selection;
 
 #[tactic(auto, unfolding(crate::specs::Report::title_text))]
 fn put_title<K: Sink>(part: &ProcReport, sink: &mut K) -> Result<(), Failed>
