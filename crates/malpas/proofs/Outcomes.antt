@@ -1,8 +1,10 @@
 -- What the outcome says of an accepted text follows from what was made and written of its checked text.
-use Rattle.std.proofs.Common.{◌≡◌, ℕ, ◌<◌, ◌≤◌, inl, inr, List, length, Option, None, Some, IfSome, arith}
+use Rattle.std.proofs.Common.{◌≡◌, ℕ, ◌<◌, ◌≤◌, inl, inr, List, length, Option, None, Some, IfSome, arith, sym, ◌∙◌}
 use Rattle.il_core.specs.Text.{Text}
 use Rattle.il_edge.specs.Known.{IsAtEnd, AppendsPrefix}
-use Rattle.report.specs.Headline.{IsTold}
+use Rattle.report.proofs.Clean.{no_bad_run}
+use Rattle.report.proofs.Fronts.{told_all}
+use Rattle.report.specs.Headline.{IsTold, NoProcedureHasABadRun}
 use Rattle.report.specs.declared.report.Report.{Report}
 use Rattle.acceptance.specs.Acceptance.{Accepts}
 use Rattle.malpas.specs.Answer.{text_limit}
@@ -41,6 +43,15 @@ part sections old new settled before now t report status ends four =
       | inr rest ↦ elim rest [ inl cut ↦ cut.part | inr short ↦ absurd (omega (arith, short.is, four)) ]
     ]
 
+-- With status 0 no procedure has a bad run.
+clean : (sections : Selection) (old new : Option (List ℕ)) (settled : Option ℕ) (before now : ℕ) (t : Text) (report : Report) (status : ℕ) → Reports sections old new settled before now t (Some report) status
+    → IsTold t report → status ≡ 0 → NoProcedureHasABadRun t
+clean sections old new settled before now t report status ends told zero =
+    elim ends [
+      | inl done ↦ no_bad_run t report (told_all t report (omega (arith, done.whole)) told) told.1.safe (sym done.is ∙ zero)
+      | inr rest ↦ elim rest [ inl cut ↦ absurd (omega (arith, cut.is, zero)) | inr short ↦ absurd (omega (arith, short.is, zero)) ]
+    ]
+
 -- What is told of the first procedures of the text that was read is what the report says of it.
 pub reported : (sections : Selection) (bytes left old new : Option (List ℕ)) (settled : Option ℕ) (before now : ℕ) (t : Text) (report : Option Report) (status : ℕ) → IsAtEnd left → HasText bytes t
     → IfSome report (λ r. IsTold t r × (0 < length r.procs)) → Reports sections old new settled before now t report status → IfSome report (IsReported None sections bytes left old new status)
@@ -58,6 +69,7 @@ reported sections bytes left old new settled before now t (Some report) status a
         fewer = fewer sections old new settled before now t report status ends;
         one_row = told.0.1.one_row;
         safe = told.0.1.safe;
+        clean = clean sections old new settled before now t report status ends told.0;
         equal_values = told.0.1.equal_values;
       },
       part sections old new settled before now t report status ends,

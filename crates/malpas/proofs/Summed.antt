@@ -1,5 +1,5 @@
 -- What the report of a made text and its summary say, at each of their ends.
-use Rattle.std.proofs.Common.{◌≡◌, ◌⊎◌, ℕ, ◌<◌, ◌≤◌, inl, inr, Bool, true, false, not, List, length, Option, None, Some, IfSome, sym, subst, arith}
+use Rattle.std.proofs.Common.{◌≡◌, ◌⊎◌, ℕ, ◌<◌, ◌≤◌, inl, inr, Bool, true, false, not, List, length, Option, None, Some, IfSome, sym, ◌∙◌, subst, arith}
 use Rattle.il_core.specs.declared.refusal.Refusal.{Refusal}
 use Rattle.il_edge.specs.Faults.{Rose}
 use Rattle.std.specs.Bool.{then_some}
@@ -7,7 +7,9 @@ use Rattle.il_core.specs.Text.{Text}
 use Rattle.il_edge.specs.Known.{AppendsPrefix}
 use Rattle.acceptance.specs.Acceptance.{Accepts, HasRefusal}
 use Rattle.made_text.specs.Made.{made_text}
-use Rattle.report.specs.Headline.{IsTold}
+use Rattle.report.proofs.Clean.{no_bad_run}
+use Rattle.report.proofs.Fronts.{told_all}
+use Rattle.report.specs.Headline.{IsTold, NoProcedureHasABadRun}
 use Rattle.report.specs.Status.{status_of}
 use Rattle.report.specs.declared.report.Report.{Report}
 use Rattle.summary_text.specs.Summary.{summary_text}
@@ -60,6 +62,15 @@ part n old new settled_old settled_new before now t report status ends four =
       | inr rest ↦ elim rest [ inl cut ↦ cut.part | inr short ↦ absurd (omega (arith, short.is, four)) ]
     ]
 
+-- With status 0 no procedure has a bad run.
+clean : (n : ℕ) (old new : Option (List ℕ)) (settled_old settled_new : Option ℕ) (before now : ℕ) (t : Text) (report : Report) (status : ℕ)
+    → Summarises n old new settled_old settled_new before now t (Some report) status → IsTold t report → status ≡ 0 → NoProcedureHasABadRun t
+clean n old new settled_old settled_new before now t report status ends told zero =
+    elim ends [
+      | inl done ↦ no_bad_run t report (told_all t report (omega (arith, done.whole)) told) told.1.safe (sym done.is ∙ zero)
+      | inr rest ↦ elim rest [ inl cut ↦ absurd (omega (arith, cut.is, zero)) | inr short ↦ absurd (omega (arith, short.is, zero)) ]
+    ]
+
 -- What is told of the first procedures of the made text is what the report says of it.
 pub made_reported : (n : ℕ) (old new : Option (List ℕ)) (settled_old settled_new : Option ℕ) (before now : ℕ) (t : Text) (report : Option Report) (status : ℕ)
     → length (made_text n) ≤ text_limit → Accepts (made_text n) t → IfSome report (λ r. IsTold t r × (0 < length r.procs))
@@ -76,6 +87,7 @@ made_reported n old new settled_old settled_new before now t (Some report) statu
       fewer = fewer n old new settled_old settled_new before now t report status ends;
       one_row = told.0.1.one_row;
       safe = told.0.1.safe;
+      clean = clean n old new settled_old settled_new before now t report status ends told.0;
       equal_values = told.0.1.equal_values;
     },
     part n old new settled_old settled_new before now t report status ends,

@@ -6,7 +6,7 @@ use Rattle.il_core.specs.declared.refusal.Refusal.{Refusal}
 use Rattle.il_edge.specs.Known.{IsAtEnd, TookMore, Appends, AppendsPrefix, IsSettled}
 use Rattle.made_text.specs.Made.{made_text}
 use Rattle.report.specs.declared.report.Report.{Report}
-use Rattle.report.specs.Headline.{TablesHaveOneRowPerInput, CleanProceduresHaveNoBadRun, EndingRunsHaveEqualValues}
+use Rattle.report.specs.Headline.{TablesHaveOneRowPerInput, CleanProceduresHaveNoBadRun, NoProcedureHasABadRun, EndingRunsHaveEqualValues}
 use Rattle.report.specs.Reported.{IsReportOfFront}
 use Rattle.report.specs.Status.{status_of}
 use Rattle.report_text.specs.Report.{head_text, parts_text, report_text}
@@ -78,8 +78,8 @@ HasFewer report t = length report.procs < length t.procs
 -- What a report that was written for a text says: it is that of the text's first procedures, at least one, of all of them where it was written
 -- whole, and not of all where memory ran out. Each table of a region within its size has exactly one row for each input of the region, and
 -- stepping the lines from the input gives the row's stop and values. Where a reducible procedure has every table within its size and every
--- threat refuted, no run from the precondition faults, fails an assertion or ends outside the postcondition. Ending runs that agree on a
--- variable's reported sources give it equal values.
+-- threat refuted, no run from the precondition faults, fails an assertion or ends outside the postcondition; with status 0 this is so of each
+-- procedure of the text. Ending runs that agree on a variable's reported sources give it equal values.
 pub record Tells (t : Text) (report : Report) (status : ℕ) : Type 0 where
   pub reported : IsReportOfFront t report
   pub some : 0 < length report.procs
@@ -87,6 +87,7 @@ pub record Tells (t : Text) (report : Report) (status : ℕ) : Type 0 where
   pub fewer : status ≡ 5 → HasFewer report t
   pub one_row : TablesHaveOneRowPerInput t report
   pub safe : CleanProceduresHaveNoBadRun t report
+  pub clean : status ≡ 0 → NoProcedureHasABadRun t
   pub equal_values : EndingRunsHaveEqualValues t report
 
 -- A source is read to its end, unless the text is made.

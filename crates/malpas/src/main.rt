@@ -11,6 +11,8 @@ mod source_text;
 #[cfg(test)]
 mod tests;
 mod top;
+#[cfg(test)]
+mod word_tests;
 
 use il_edge::{StdSink, StdSource};
 use std::env;

@@ -73,6 +73,10 @@ pub record Headline (t : Text) (report : Report) : Type 0 where
   pub safe : CleanProceduresHaveNoBadRun t report
   pub equal_values : EndingRunsHaveEqualValues t report
 
+-- no procedure of a text has a bad run: what status 0 means
+abbrev pub NoProcedureHasABadRun : Text → Type 0
+NoProcedureHasABadRun t = (k : ℕ) (p : TextProcedure) → slice_get t.procs k ≡ Some p → HasNoBadRun p.body
+
 -- a report is that of the first procedures of a text, and says this of their runs
 abbrev pub IsTold : Text → Report → Type 0
 IsTold t report = IsReportOfFront t report × Headline t report

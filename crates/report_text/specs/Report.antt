@@ -6,6 +6,8 @@ use Rattle.report.specs.declared.report.ProcReport.{ProcReport}
 use Rattle.report.specs.declared.report.Report.{Report}
 use Rattle.request.specs.declared.selection.Selection.{Selection}
 use Rattle.report_text.specs.Sections.{control_text, usage_text, flows_text, paths_text}
+use Rattle.report_text.specs.Tables.{tables_text}
+use Rattle.report_text.specs.Threats.{threats_text}
 
 -- the first two lines
 unfoldable pub head_text : Report → List ℕ
@@ -29,7 +31,10 @@ unfoldable pub paths_section : ProcReport → List ℕ
 paths_section p = elim p.analyses [ None ↦ codes "PATHS\n" ++ not_reported | Some a ↦ paths_text p.arcs a.paths ]
 
 unfoldable pub semantic_section : ProcReport → List ℕ
-semantic_section p = elim p.analyses [ None ↦ codes "SEMANTIC\n" ++ not_reported | Some a ↦ codes "SEMANTIC\n" ]
+semantic_section p = elim p.analyses [ None ↦ codes "SEMANTIC\n" ++ not_reported | Some a ↦ tables_text p.places a.tables ]
+
+unfoldable pub compliance_section : ProcReport → List ℕ
+compliance_section p = elim p.analyses [ None ↦ codes "COMPLIANCE\n" ++ not_reported | Some a ↦ threats_text p.places a.tables a.threats ]
 
 -- the line of a procedure
 unfoldable pub title_text : ProcReport → List ℕ
@@ -39,6 +44,7 @@ title_text p = codes "PROCEDURE " ++ p.name ++ codes " LINES " ++ decimal p.line
 unfoldable pub part_text : Selection → ProcReport → List ℕ
 part_text selection p = title_text p ++ chosen selection.control (control_text p.control p.derivation) ++ chosen selection.usage (usage_section p)
     ++ chosen selection.flow (flow_section p) ++ chosen selection.paths (paths_section p) ++ chosen selection.semantic (semantic_section p)
+    ++ chosen selection.compliance (compliance_section p)
 
 -- the last line
 unfoldable pub end_text : ℕ → List ℕ

@@ -16,7 +16,7 @@ use Rattle.path_expr.specs.declared.report.Ref.{Ref}
 use Rattle.path_expr.specs.declared.report.Ref.TheVariants as ref
 use Rattle.path_expr.specs.declared.report.Def.{Def}
 use Rattle.path_expr.specs.declared.report.Def.TheVariants.{Sum, Product, Star}
-use Rattle.report_text.specs.Lists.{numbered, line_text, lines_text, place_at, names_text}
+use Rattle.form_text.specs.Lists.{numbered, line_text, lines_text, place_at, names_text}
 
 -- a loop by its head, with its members and its leading assertions
 unfoldable pub loop_text : LoopInfo → List ℕ

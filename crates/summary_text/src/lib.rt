@@ -4,7 +4,6 @@
 #![tactic(auto)]
 
 mod counts;
-mod pieces;
 mod summary;
 
 pub use summary::put_summary;

@@ -1,11 +1,11 @@
 ghost use Rattle.std.specs.Prelude.{◌≡◌};
 ghost use Rattle.il_edge.specs.Faults.{HasCause};
 ghost use Rattle.il_edge.specs.Known.{SameTold};
-ghost use Rattle.summary_text.specs.Pieces.{Writes};
+ghost use Rattle.form_text.specs.Pieces.{Writes};
 ghost use Rattle.summary_text.specs.Summary.{sizes_text, summary_text, verdicts_text};
 
 use crate::counts::{Counts, counts_of};
-use crate::pieces::put;
+use form_text::put;
 use il_edge::{Failed, Sink};
 use itoa::Buffer;
 use report::Report;

@@ -1,10 +1,10 @@
 use Rattle.std.proofs.Common.{◌≡◌, ℕ, List, ◌++◌, Option, Result, ap, subst, ◌∙◌}
 use Rattle.il_edge.specs.Known.{Appends, AppendsPrefix}
 use Rattle.report.specs.declared.report.ProcReport.{ProcReport}
-use Rattle.summary_text.specs.Pieces.{Writes}
+use Rattle.form_text.specs.Pieces.{Writes}
 use Rattle.summary_text.specs.Summary.{counts_of, sizes_text, verdicts_text}
 use Rattle.summary_text.specs.declared.counts.Counts.{Counts}
-use Rattle.summary_text.proofs.Written.{writes_behind, prefix_more}
+use Rattle.form_text.proofs.Written.{writes_behind, prefix_more}
 use Rattle.summary_text.proofs.summary.put_summary.Goals as goal
 
 -- both halves, with the numbers of the procedures
