@@ -10,7 +10,7 @@ use Rattle.report.specs.declared.report.Report.{Report}
 use Rattle.request.specs.declared.selection.Selection.{Selection}
 use Rattle.report_text.specs.Report.{head_text, end_text, parts_text, report_text}
 use Rattle.report.specs.Status.{status_of}
-use Rattle.report_text.proofs.Written.{prefix_behind, prefix_more}
+use Rattle.form_text.proofs.Written.{prefix_behind, prefix_more}
 use Rattle.malpas.specs.Answer.{Sends}
 use Rattle.malpas.specs.Parts.{before_last, text_due, IsSettledBehind, AreSent, AreCut, Reports}
 use Rattle.malpas.proofs.Sent.{text_with_some, parts_before, settled_behind, keeps}

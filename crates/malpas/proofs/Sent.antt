@@ -12,7 +12,7 @@ use Rattle.report.specs.declared.report.ProcReport.{ProcReport}
 use Rattle.report.specs.declared.report.Report.{Report}
 use Rattle.request.specs.declared.selection.Selection.{Selection}
 use Rattle.report_text.specs.Report.{head_text, part_text, parts_text}
-use Rattle.report_text.proofs.Written.{prefix_behind}
+use Rattle.form_text.proofs.Written.{prefix_behind}
 use Rattle.report.specs.Headline.{IsTold}
 use Rattle.malpas.specs.Parts.{before_last, last_alone, text_with, first_text, next_text, SettledPast, KeepsParts, IsSettledBehind, AreSent, AreCut}
 

@@ -2,7 +2,7 @@ ghost use Rattle.std.specs.Prelude.{◌≡◌, ◌<◌, ◌≤◌, [], None, len
 ghost use Rattle.il_core.specs.Text.{text_of};
 ghost use Rattle.il_edge.specs.Faults.{HasCause};
 ghost use Rattle.il_edge.specs.Known.{SameTold};
-ghost use Rattle.report_text.specs.Pieces.{Writes};
+ghost use Rattle.form_text.specs.Pieces.{Writes};
 ghost use Rattle.report_text.specs.Report.{end_text};
 ghost use Rattle.report.specs.Headline.{IsTold};
 ghost use Rattle.report.specs.Status.{status_of};

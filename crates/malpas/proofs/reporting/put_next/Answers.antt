@@ -1,5 +1,5 @@
 use Rattle.std.proofs.Common.{sym}
-use Rattle.report_text.proofs.Written.{prefix_more, writes_behind}
+use Rattle.form_text.proofs.Written.{prefix_more, writes_behind}
 use Rattle.malpas.proofs.Sent.{next_is}
 use Rattle.malpas.proofs.reporting.put_next.Goals as goal
 
