@@ -54,13 +54,24 @@ fn writes_the_sections_that_are_selected(rt: HostRuntime) -> Result<(), Fail> {
 #[test]
 fn writes_the_summary_of_a_made_text(rt: HostRuntime) -> Result<(), Fail> {
     expect(&rt, rt.alloc(), &["--generate", "3"], "", 0, OF_THREE)?;
-    expect(&rt, rt.alloc(), &["--use", "--generate=3"], COPY, 0, OF_THREE)
+    expect(
+        &rt,
+        rt.alloc(),
+        &["--use", "--generate=3"],
+        COPY,
+        0,
+        OF_THREE,
+    )
 }
 
 #[test]
 fn refuses_words_that_spell_no_request(rt: HostRuntime) -> Result<(), Fail> {
     let refused = "malpas: words not understood\n";
-    for words in [&["--generate"].as_slice(), &["--flow=x"].as_slice(), &["flow"].as_slice()] {
+    for words in [
+        &["--generate"].as_slice(),
+        &["--flow=x"].as_slice(),
+        &["flow"].as_slice(),
+    ] {
         expect(&rt, rt.alloc(), words, COPY, 6, refused)?;
     }
     Ok(())
