@@ -3,11 +3,11 @@ ghost use Rattle.std.specs.Prelude.{IfOk};
 ghost use Rattle.flow_graph.specs.Graph.{IsWellFormed};
 ghost use Rattle.flow_graph.specs.Reached.{IsInnerOrder};
 
+use acceptance::accept;
 use control_flow::{Shape, control_of};
 use flow_graph::{FlowGraph, build};
 use il_core::{CheckedText, List, NoMemory, TextEnd};
 use interval_reduce::derive;
-use malpas_suite::accept;
 use std::alloc::Global;
 use std::test::Fail;
 
