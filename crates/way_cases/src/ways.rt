@@ -1,9 +1,7 @@
 //! The ways through lines, and steps along their decisions.
-ghost use Rattle.std.specs.Prelude.{◌≤ℤ◌, IsTrue};
-ghost use Rattle.il_core.specs.Run.{IsInRange};
-
-use il_core::{CheckedProc, Halt, Next, Place, Relation};
 use acceptance::accept;
+use case_values::is_in_range;
+use il_core::{CheckedProc, Halt, Next, Place, Relation};
 use std::alloc::{AllocError, Global};
 use std::test::Fail;
 use sym_terms::{Literal, Term};
@@ -149,26 +147,6 @@ fn lines_have_their_ways(rt: HostRuntime) -> Result<(), Fail> {
         assert_eq!(rt; shares, 8u32);
     }
     Ok(())
-}
-
-fn is_value_of(place: &Place, value: i64) -> bool
-    ensures { IsTrue result → (place.now.least ≤ℤ value) × (value ≤ℤ place.now.greatest) }
-{
-    place.least <= value && value <= place.greatest
-}
-
-fn is_in_range(places: &[Place], vals: &[i64]) -> bool
-    ensures { IsTrue result → IsInRange places.now vals.now }
-{
-    if vals.len() != places.len() {
-        return false;
-    }
-    for (index, place) in places.iter().enumerate() {
-        if !is_value_of(place, vals[index]) {
-            return false;
-        }
-    }
-    true
 }
 
 /// The step of a line along a path, where the line is there and the values are in range.
