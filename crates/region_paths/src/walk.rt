@@ -19,7 +19,8 @@ use il_core::CheckedProc;
 use sym_terms::{TermMeasure, measure};
 use test_graph::{TestGraph, TestNode};
 
-/// The first node of a line's decisions.
+/// The first node of the decisions of a line, which is one of the procedure's, in its lowered graph. It takes two
+/// look-ups.
 pub fn first_node(proc: &CheckedProc, graph: &TestGraph, line: usize) -> usize
     requires lowered { IsLowered (procedure_of proc.now) graph.now }
     requires line { line < length proc.now.lines }
@@ -37,7 +38,7 @@ pub fn first_node(proc: &CheckedProc, graph: &TestGraph, line: usize) -> usize
     }
 }
 
-/// The loop of which a line is the head.
+/// The index of the loop of which a line is the head; `None` exactly where it is no head. It takes one look at each loop.
 pub fn loop_of(loops: &[LoopInfo], line: usize) -> Option<usize>
     ensures { MatchOption result (region.is_head loops.now line ≡ false) (λ k. (l : LoopInfo) × (slice_get loops.now k ≡ Some l) × (region.is_head loops.now line ≡ true) × (region.leading_of loops.now line ≡ l.leading) × (l.head ≡ line)) }
 {
@@ -49,7 +50,7 @@ pub fn loop_of(loops: &[LoopInfo], line: usize) -> Option<usize>
     None
 }
 
-/// The leading assertions of the loop at an index.
+/// The leading assertions of the loop at an index, which is below the number of loops, in order.
 pub fn leading_at(loops: &[LoopInfo], at: usize) -> &[usize]
     requires { at < length loops.now }
     ensures { (l : LoopInfo) → slice_get loops.now at ≡ Some l → result.now ≡ l.leading }
