@@ -6,6 +6,7 @@ import sys
 import threading
 from concurrent.futures import ThreadPoolExecutor
 from dataclasses import dataclass
+from typing import Callable
 
 from model.accepting import accept
 from model.making import number_of, summary_of
@@ -62,13 +63,18 @@ def deeply(call, *arguments):
         return pool.submit(call, *arguments).result()
 
 
+def answer_words(words: list[str], read: Callable[[], bytes]) -> tuple[str, int]:
+    """What is printed for words, and the exit status; the text is read only where it is asked for."""
+    request = read_words(words)
+    if request is None:
+        return NOT_UNDERSTOOD
+    if request.made is not None:
+        return summary_of(request.made)
+    return answer(read(), request.sections)
+
+
 def main() -> int:
     """Answers standard input on standard output."""
-    request = read_words(sys.argv[1:])
-    output, status = NOT_UNDERSTOOD
-    if request is not None and request.made is not None:
-        output, status = deeply(summary_of, request.made)
-    elif request is not None:
-        output, status = deeply(answer, sys.stdin.buffer.read(), request.sections)
+    output, status = deeply(answer_words, sys.argv[1:], sys.stdin.buffer.read)
     sys.stdout.write(output)
     return status

@@ -3,13 +3,14 @@
 from __future__ import annotations
 
 import argparse
+import random
 import subprocess
 from dataclasses import dataclass
 from pathlib import Path
 from typing import Callable, Iterator
 
 from model.accepting import accept
-from model.command import answer, deeply
+from model.command import answer_words, deeply
 from model.exhaustive import faults_of
 from model.graphs import Graph, graph_of
 from model.inventing import invented
@@ -44,6 +45,16 @@ class Answer:
         return found
 
 
+WORDS = [f"--{section.lower()}" for section in SECTIONS] * 4
+WORDS += ["--generate", "--generate=2", "3", "7", "0", "201", "007", "--generate=", "--", "--help", "--flow=x", "-flow", "flow", ""]
+
+
+def words_for(name: str) -> list[str]:
+    """Random words for a text: report words, and now and then others."""
+    choice = random.Random(name)
+    return choice.choices(WORDS[: 6 if choice.random() < 0.7 else None], k=choice.choice([0, 1, 1, 2, 3]))
+
+
 def run(program: list[str], text: bytes, seconds: float) -> Answer:
     """The program's answer to a text; a run that takes too long has the status -1."""
     try:
@@ -53,11 +64,11 @@ def run(program: list[str], text: bytes, seconds: float) -> Answer:
     return Answer(done.stdout.decode("latin-1") + done.stderr.decode("latin-1"), done.returncode)
 
 
-def modelled(text: bytes) -> Answer:
-    """The model's answer to a text; where the model itself breaks down, that is its answer."""
+def modelled(words: list[str], text: bytes) -> Answer:
+    """The model's answer to words and a text; where the model itself breaks down, that is its answer."""
     forget()
     try:
-        return Answer(*answer(text))
+        return Answer(*answer_words(words, lambda: text))
     except Exception as trouble:  # pylint: disable=broad-exception-caught
         return Answer(f"the model breaks down: {trouble!r}", 70)
 
@@ -107,7 +118,7 @@ def first_difference(program: list[str], model: list[str]) -> str | None:
 
 def difference(text: bytes, program: Answer, model: Answer, skipped: set[str]) -> str | None:
     """The first difference of two answers, apart from sections that are skipped; None where there is none."""
-    if {2, 70} & {program.status, model.status} or not program.output.startswith("MALPAS "):
+    if {2, 6, 70} & {program.status, model.status} or not program.output.startswith("MALPAS "):
         same = program == model
         return None if same else f"the program says {program.output[:200]!r} ({program.status}), the model {model.output[:200]!r}"
     ours, theirs = model.sections(), program.sections()
@@ -154,25 +165,26 @@ class Comparison:
         self.passed = 0
         self.failed = 0
 
-    def difference_of(self, text: bytes) -> str | None:
-        """The difference that a text shows, or what the model finds wrong with its own report."""
-        program = run(self.program, text, self.options.seconds)
-        model = modelled(text)
+    def difference_of(self, words: list[str], text: bytes) -> str | None:
+        """The difference that a text shows with some words."""
+        program = run([*self.program, *words], text, self.options.seconds)
+        model = modelled(words, text)
         if program.status == -1:
             return "the program took too long"
         return difference(text, program, model, self.skipped)
 
     def compare(self, name: str, text: bytes) -> None:
         """Compares on one text."""
-        found = self.difference_of(text)
+        words = words_for(name) if self.options.words else []
+        found = self.difference_of(words, text)
         if found is None:
             self.passed += 1
             return
         self.failed += 1
         if self.options.shrink:
-            text = shrunk(text, lambda fewer: self.difference_of(fewer) is not None)
-            found = self.difference_of(text)
-        print(f"{name}: {found}\n{text.decode('latin-1')}", flush=True)
+            text = shrunk(text, lambda fewer: self.difference_of(words, fewer) is not None)
+            found = self.difference_of(words, text)
+        print(f"{' '.join([name, *words])}: {found}\n{text.decode('latin-1')}", flush=True)
 
     def try_inputs(self, name: str, text: bytes) -> None:
         """Tries the model's own report of a text on every input of its small procedures."""
@@ -210,6 +222,7 @@ def read_options(words: list[str]) -> argparse.Namespace:
     parser.add_argument("--seconds", type=float, default=60, help="the time that one run may take (60)")
     parser.add_argument("--skip", action="append", default=[], choices=SECTIONS, help="a section that is not compared")
     parser.add_argument("--states", type=int, default=0, help="try the model on all inputs of procedures of so few states")
+    parser.add_argument("--words", action="store_true", help="give the program random words with each text")
     parser.add_argument("--shrink", action="store_true", help="make differing texts as small as possible")
     return parser.parse_args(words)
 
