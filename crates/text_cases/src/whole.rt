@@ -27,10 +27,11 @@ fn expect(
     written: &str,
 ) -> Result<(), Fail> {
     let text = format!(in alloc; "TITLE t;PROC p;{body}ENDPROC;FINISH;")?;
-    if text.len() > 1_048_576 {
+    let bytes = text.as_bytes();
+    if bytes.len() > 1_048_576 {
         return Err(Fail::from("too long"));
     }
-    let checked = accept(alloc, text.as_bytes()).or(Err("not accepted"))?;
+    let checked = accept(alloc, bytes).or(Err("not accepted"))?;
     let report = analyse(alloc, &checked)?;
     let mut sink = SureSink::new(alloc, 5_000)?;
     put(&report, TABLES, &mut sink)?;
