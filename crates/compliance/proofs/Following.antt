@@ -15,11 +15,11 @@ FollowOn a [] = Unit {0}
 FollowOn a (b ∷ lines) = (b ≡ a) × FollowOn (a + 1) lines
 
 -- each number is below all behind it
-abbrev Rise : List ℕ → Type 0
+abbrev pub Rise : List ℕ → Type 0
 Rise [] = Unit {0}
 Rise (b ∷ rest) = ((k : ℕ) → IsIn rest k → b < k) × Rise rest
 
-rises : (xs : List ℕ) → AllPairs (λ x y. x < y) xs → Rise xs
+pub rises : (xs : List ℕ) → AllPairs (λ x y. x < y) xs → Rise xs
 rises [] h = tt
 rises (b ∷ rest) h = (
   λ k i. let t = place_of rest k i in let m = t.1 in subst (λ x. b < x) t.2 (h 0 (suc t.0) 0 (omega arith) (omega (arith, m))),

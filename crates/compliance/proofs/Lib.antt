@@ -11,3 +11,12 @@ pub mod TakenBack
 pub mod Verdicts
 pub mod OneVerdict
 pub mod Listings
+pub mod Behind
+pub mod Loose
+pub mod Stepped
+pub mod Bounded
+pub mod Judged
+pub mod Told
+pub mod BadPaths
+pub mod Regions
+pub mod Named

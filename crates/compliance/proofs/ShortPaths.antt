@@ -45,17 +45,32 @@ quiet_next p q r w arcs k i e =
     let a : IsIn (heads_at q (slice_get p.lines q)) r = arcs p q r w i e in
     quiet_heads q r k.instruction k.quiet (subst (λ (o : Option Instruction). IsIn (heads_at q o) r) k.there a)
 
--- ways of lines that follow one another are ways of any lines that follow on from the same line, where these are not fewer
-leads_within : (p : Procedure) (head a : ℕ) (xs lines : List ℕ) (ws : List Way) (h : Halt) → FollowOn a xs → FollowOn a lines → Leads p head xs ws (stop.Halted h)
-    → length ws ≤ length lines → StayWithin p lines ws
-leads_within p head a xs lines [] h f g l few = tt
-leads_within p head a xs [] (w ∷ ws) h f g l few = absurd (omega (arith, few))
-leads_within p head a [] (b ∷ lines) (w ∷ ws) h f g l few = absurd (let e = l.1 in cc)
-leads_within p head a (x ∷ xs) (b ∷ lines) (w ∷ ws) h f g l few =
-    (subst (λ y. IsIn (line_paths p y) w) (f.0 ∙ sym g.0) l.0, by_next w.next l.1 (λ m. leads_within p head (a + 1) xs lines ws h f.1 g.1 m (omega (arith, few))))
+-- these are ways through these lines, one after the other, as far as both reach
+abbrev pub GoAlong : Procedure → List ℕ → List Way → Type 0
+GoAlong p [] ws = Unit {0}
+GoAlong p (q ∷ lines) [] = Unit {0}
+GoAlong p (q ∷ lines) (w ∷ ws) = IsIn (line_paths p q) w × GoAlong p lines ws
+
+none_along : (p : Procedure) (lines : List ℕ) → GoAlong p lines []
+none_along p [] = tt
+none_along p (q ∷ lines) = tt
+
+-- where they are no more than the lines, they stay within these
+pub along_within : (p : Procedure) (lines : List ℕ) (ws : List Way) → GoAlong p lines ws → length ws ≤ length lines → StayWithin p lines ws
+along_within p lines [] k few = tt
+along_within p [] (w ∷ ws) k few = absurd (omega (arith, few))
+along_within p (q ∷ lines) (w ∷ ws) k few = (k.0, along_within p lines ws k.1 (omega (arith, few)))
+
+-- ways of lines that follow one another are ways of any lines that follow on from the same line
+leads_along : (p : Procedure) (head a : ℕ) (xs lines : List ℕ) (ws : List Way) (h : Halt) → FollowOn a xs → FollowOn a lines → Leads p head xs ws (stop.Halted h) → GoAlong p lines ws
+leads_along p head a xs [] ws h f g l = tt
+leads_along p head a xs (b ∷ lines) [] h f g l = tt
+leads_along p head a [] (b ∷ lines) (w ∷ ws) h f g l = absurd (let e = l.1 in cc)
+leads_along p head a (x ∷ xs) (b ∷ lines) (w ∷ ws) h f g l =
+    (subst (λ y. IsIn (line_paths p y) w) (f.0 ∙ sym g.0) l.0, by_next w.next l.1 (λ m. leads_along p head (a + 1) xs lines ws h f.1 g.1 m))
   where
-    by_next : (n : Next) → Passes n ws (stop.Halted h) (Leads p head xs ws (stop.Halted h)) → (Leads p head xs ws (stop.Halted h) → StayWithin p lines ws) → StayWithin p lines ws
-    by_next (next.Halted x) m later = subst (StayWithin p lines) (sym m.0) tt
+    by_next : (n : Next) → Passes n ws (stop.Halted h) (Leads p head xs ws (stop.Halted h)) → (Leads p head xs ws (stop.Halted h) → GoAlong p lines ws) → GoAlong p lines ws
+    by_next (next.Halted x) m later = subst (GoAlong p lines) (sym m.0) (none_along p lines)
     by_next (next.At q) m later = later m
 
 -- the leading assertions of a head that is an assertion follow on from it
@@ -70,15 +85,15 @@ own_lead p loops q a regions k i = from (leads_from (graph_of p).nodes q a (lead
     from t = at_start t.start t.begins t.follow
 
 -- at a head that is an assertion
-head_within : (p : Procedure) (loops : List LoopInfo) (q : ℕ) (lines : List ℕ) (ws : List Way) (h : Halt) → AreRegions p loops → IsAssertion (graph_of p).nodes q
-    → FollowOn q lines → Leads p q (leading_of loops q) ws (stop.Halted h) → length ws ≤ length lines → StayWithin p lines ws
-head_within p loops q lines ws h regions k f l few = by_lines (leading_of loops q) refl l
+head_along : (p : Procedure) (loops : List LoopInfo) (q : ℕ) (lines : List ℕ) (ws : List Way) (h : Halt) → AreRegions p loops → IsAssertion (graph_of p).nodes q
+    → FollowOn q lines → Leads p q (leading_of loops q) ws (stop.Halted h) → GoAlong p lines ws
+head_along p loops q lines ws h regions k f l = by_lines (leading_of loops q) refl l
   where
-    by_lines : (xs : List ℕ) → leading_of loops q ≡ xs → Leads p q xs ws (stop.Halted h) → StayWithin p lines ws
+    by_lines : (xs : List ℕ) → leading_of loops q ≡ xs → Leads p q xs ws (stop.Halted h) → GoAlong p lines ws
     by_lines [] e m = absurd (let x = m.1 in cc)
     by_lines (a ∷ xs) e m =
         let i : IsIn (leading_of loops q) a = subst (λ x. IsIn x a) (sym e) (inl refl) in
-        leads_within p q q (leading_of loops q) lines ws h (own_lead p loops q a regions k i) f l few
+        leads_along p q q (leading_of loops q) lines ws h (own_lead p loops q a regions k i) f l
 
 -- lines that follow one another, a quiet one and then assertions
 pub record IsRun (p : Procedure) (pc : ℕ) (lines : List ℕ) : Type 0 where
@@ -86,13 +101,13 @@ pub record IsRun (p : Procedure) (pc : ℕ) (lines : List ℕ) : Type 0 where
   pub quiet : (q : ℕ) → IsIn lines q → IsQuiet p q
   pub asserted : (q : ℕ) → IsIn lines q → (q ≡ pc) ⊎ IsAssertion (graph_of p).nodes q
 
-chain_within : (p : Procedure) (loops : List LoopInfo) (pc : ℕ) (lines : List ℕ) (ws : List Way) (h : Halt) → WaysGoAlongArcs → AreRegions p loops → FollowOn pc lines
+chain_along : (p : Procedure) (loops : List LoopInfo) (pc : ℕ) (lines : List ℕ) (ws : List Way) (h : Halt) → WaysGoAlongArcs → AreRegions p loops → FollowOn pc lines
     → ((q : ℕ) → IsIn lines q → IsQuiet p q) → ((q : ℕ) → IsIn lines q → (q ≡ pc) ⊎ IsAssertion (graph_of p).nodes q) → IsLongChain p loops pc ws (stop.Halted h)
-    → length ws ≤ length lines → StayWithin p lines ws
-chain_within p loops pc lines [] h arcs regions f k a c few = tt
-chain_within p loops pc [] (w ∷ ws) h arcs regions f k a c few = absurd (omega (arith, few))
-chain_within p loops pc (b ∷ lines) (w ∷ ws) h arcs regions f k a c few =
-    (subst (λ y. IsIn (line_paths p y) w) (sym f.0) c.0, by_next w.next refl c.1 (λ q e m. chain_within p loops q lines ws h arcs regions (from q e) (λ x i. k x (inr i)) (λ x i. inr (later x i)) m (omega (arith, few))))
+    → GoAlong p lines ws
+chain_along p loops pc [] ws h arcs regions f k a c = tt
+chain_along p loops pc (b ∷ lines) [] h arcs regions f k a c = tt
+chain_along p loops pc (b ∷ lines) (w ∷ ws) h arcs regions f k a c =
+    (subst (λ y. IsIn (line_paths p y) w) (sym f.0) c.0, by_next w.next refl c.1 (λ q e m. chain_along p loops q lines ws h arcs regions (from q e) (λ x i. k x (inr i)) (λ x i. inr (later x i)) m))
   where
     above : (x n : ℕ) (xs : List ℕ) → FollowOn n xs → IsIn xs x → n ≤ x
     above x n [] g i = absurd i
@@ -112,26 +127,22 @@ chain_within p loops pc (b ∷ lines) (w ∷ ws) h arcs regions f k a c few =
     first_asserted q [] g m = inl refl
     first_asserted q (x ∷ xs) g m = inr (subst (IsAssertion (graph_of p).nodes) g.0 (m x (inl refl)))
 
-    none_left : (xs : List Way) → length xs ≤ 0 → StayWithin p [] xs
-    none_left [] l = tt
-    none_left (v ∷ xs) l = absurd (omega (arith, l))
-
-    at_head : (q : ℕ) → q ≡ pc + 1 → Leads p q (leading_of loops q) ws (stop.Halted h) → StayWithin p lines ws
+    at_head : (q : ℕ) → q ≡ pc + 1 → Leads p q (leading_of loops q) ws (stop.Halted h) → GoAlong p lines ws
     at_head q e m = elim (first_asserted q lines (from q e) later) [
-      | inl none ↦ subst (λ x. StayWithin p x ws) (sym none) (none_left ws (omega (arith, few, ap length none)))
-      | inr own ↦ head_within p loops q lines ws h regions own (from q e) m (omega (arith, few))
+      | inl none ↦ subst (λ x. GoAlong p x ws) (sym none) tt
+      | inr own ↦ head_along p loops q lines ws h regions own (from q e) m
     ]
 
     by_head : (t : Bool) (q : ℕ) → q ≡ pc + 1 → is_head loops q ≡ t
         → Onward loops (next.At q) ws (stop.Halted h) (λ x. Leads p x (leading_of loops x) ws (stop.Halted h)) (λ x. IsLongChain p loops x ws (stop.Halted h))
-        → ((x : ℕ) → x ≡ pc + 1 → IsLongChain p loops x ws (stop.Halted h) → StayWithin p lines ws) → StayWithin p lines ws
+        → ((x : ℕ) → x ≡ pc + 1 → IsLongChain p loops x ws (stop.Halted h) → GoAlong p lines ws) → GoAlong p lines ws
     by_head true q e t m go = at_head q e (rw t at m)
     by_head false q e t m go = go q e (rw t at m)
 
     by_next : (n : Next) → w.next ≡ n
         → Onward loops n ws (stop.Halted h) (λ x. Leads p x (leading_of loops x) ws (stop.Halted h)) (λ x. IsLongChain p loops x ws (stop.Halted h))
-        → ((x : ℕ) → x ≡ pc + 1 → IsLongChain p loops x ws (stop.Halted h) → StayWithin p lines ws) → StayWithin p lines ws
-    by_next (next.Halted x) e m go = subst (StayWithin p lines) (sym m.0) tt
+        → ((x : ℕ) → x ≡ pc + 1 → IsLongChain p loops x ws (stop.Halted h) → GoAlong p lines ws) → GoAlong p lines ws
+    by_next (next.Halted x) e m go = subst (GoAlong p lines) (sym m.0) (none_along p lines)
     by_next (next.At q) e m go = by_head (is_head loops q) q (on q e) refl m go
 
 -- the lines of an opening follow one another, and behind the first they are assertions
@@ -174,8 +185,13 @@ opening_run p loops pc regions = by_lines (leading_of loops pc) refl
         let t = leads_from (graph_of p).nodes pc a (leading_of loops pc) (leading_lists p loops pc a regions i) i in
         at_start a lines e t.start t.begins (subst (FollowOn t.start) e t.follow)
 
--- a long chain that halts and passes no more lines than the opening has stays within it
+-- a long chain that halts goes along the opening
+pub opening_along : (p : Procedure) (loops : List LoopInfo) (pc : ℕ) (ws : List Way) (h : Halt) → WaysGoAlongArcs → AreRegions p loops → IsLongChain p loops pc ws (stop.Halted h)
+    → GoAlong p (opening loops pc) ws
+opening_along p loops pc ws h arcs regions c =
+    let r = opening_run p loops pc regions in chain_along p loops pc (opening loops pc) ws h arcs regions r.follow r.quiet r.asserted c
+
+-- where it passes no more lines than the opening has, it stays within it
 pub short_within : (p : Procedure) (loops : List LoopInfo) (pc : ℕ) (ws : List Way) (h : Halt) → WaysGoAlongArcs → AreRegions p loops → IsLongChain p loops pc ws (stop.Halted h)
     → length ws ≤ length (opening loops pc) → StayWithin p (opening loops pc) ws
-short_within p loops pc ws h arcs regions c few =
-    let r = opening_run p loops pc regions in chain_within p loops pc (opening loops pc) ws h arcs regions r.follow r.quiet r.asserted c few
+short_within p loops pc ws h arcs regions c few = along_within p (opening loops pc) ws (opening_along p loops pc ws h arcs regions c) few

@@ -116,7 +116,7 @@ pub record GoesOnTaking (p : Procedure) (n q : ℕ) (s : State) (w : Way) (ws : 
   pub next : w.next ≡ next.At line
   pub takes : TakesDecisions p n line (state_behind w.change s) (path_of ws) h
 
-goes_on_taking : (p : Procedure) (n q : ℕ) (s : State) (w : Way) (ws : List Way) (h : Halt) → WaysAreSteps → IsChecked p → IsInRange p.places s → IsIn (line_paths p q) w
+pub goes_on_taking : (p : Procedure) (n q : ℕ) (s : State) (w : Way) (ws : List Way) (h : Halt) → WaysAreSteps → IsChecked p → IsInRange p.places s → IsIn (line_paths p q) w
     → TakesDecisions p (suc n) q s (path_of (w ∷ ws)) h → GoesOnTaking p n q s w ws h
 goes_on_taking p n q s w ws h law c r i t =
     let k = way_held p q s w (path_of ws) t.1 i t.3 in
@@ -129,6 +129,16 @@ goes_on_taking p n q s w ws h law c r i t =
       takes = subst (λ x. TakesDecisions p n t.0 x (path_of ws) h) (ap (λ (x : Step). x.state) e) (subst (λ x. TakesDecisions p n t.0 (step p q s).state x h) (sym k.same) t.4);
     }
 
+-- behind a quiet line it is taken on at the next line
+pub line_behind : (p : Procedure) (n q : ℕ) (s : State) (w : Way) (ws : List Way) (h : Halt) (g : GoesOnTaking p n q s w ws h) → IsQuiet p q → g.line ≡ q + 1
+line_behind p n q s w ws h g k = elim (quiet_step p q s k) [
+  | inl x ↦ let f : next.At g.line ≡ next.At (q + 1) = e ∙ ap (λ (y : Step). y.next) x in cc
+  | inr x ↦ let f : next.At g.line ≡ next.Halted x.0 = e ∙ ap (λ (y : Step). y.next) x.1 in absurd cc
+]
+  where
+    e : next.At g.line ≡ (step p q s).next
+    e = sym (ap (λ (x : Step). x.next) g.stepped ∙ g.next)
+
 -- through leading assertions that follow one another
 leads_back : (p : Procedure) (head a : ℕ) (lines : List ℕ) (ws : List Way) (n : ℕ) (s : State) (h : Halt) → WaysAreSteps → IsChecked p → IsInRange p.places s
     → ((q : ℕ) → IsIn lines q → IsQuiet p q) → FollowOn a lines → Leads p head lines ws (stop.Halted h) → TakesDecisions p n a s (path_of ws) h → fits ws s ≡ true
@@ -140,20 +150,14 @@ leads_back p head a (b ∷ lines) (w ∷ ws) zero s h law c r k follow l t =
 leads_back p head a (b ∷ lines) (w ∷ ws) (suc n) s h law c r k follow l t =
     let g = goes_on_taking p n b s w ws h law c r l.0 (subst (λ x. TakesDecisions p (suc n) x s (path_of (w ∷ ws)) h) (sym follow.0) t) in
     let m : Leads p head lines ws (stop.Halted h) = subst (λ x. Passes x ws (stop.Halted h) (Leads p head lines ws (stop.Halted h))) g.next l.1 in
-    let there : g.line ≡ a + 1 = line_is g.line (sym (ap (λ (x : Step). x.next) g.stepped ∙ g.next)) in
+    let there : g.line ≡ a + 1 = line_behind p n b s w ws h g (k b (inl refl)) ∙ ap (λ y. y + 1) follow.0 in
     fits_both w ws s g.holds
     (leads_back p head (a + 1) lines ws n (state_behind w.change s) h law c (behind_in_range p b s w c r g.stepped) (λ q i. k q (inr i)) follow.1 m
     (subst (λ x. TakesDecisions p n x (state_behind w.change s) (path_of ws) h) there g.takes))
-  where
-    line_is : (q : ℕ) → next.At q ≡ (step p b s).next → q ≡ a + 1
-    line_is q e = elim (quiet_step p b s (k b (inl refl))) [
-      | inl x ↦ let f : next.At q ≡ next.At (b + 1) = e ∙ ap (λ (y : Step). y.next) x in let m : q ≡ b + 1 = cc in m ∙ ap (λ y. y + 1) follow.0
-      | inr x ↦ let f : next.At q ≡ next.Halted x.0 = e ∙ ap (λ (y : Step). y.next) x.1 in absurd cc
-    ]
 
 -- from a head that does nothing on to the next line
-plain_back : (p : Procedure) (q n : ℕ) (s : State) (path : List Bool) (h : Halt) → kind_at (graph_of p).nodes q ≡ Some Plain → TakesDecisions p n q s path h
-    → (m : ℕ) × TakesDecisions p m (q + 1) s path h
+pub plain_back : (p : Procedure) (q n : ℕ) (s : State) (path : List Bool) (h : Halt) → kind_at (graph_of p).nodes q ≡ Some Plain → TakesDecisions p n q s path h
+    → (m : ℕ) × TakesDecisions p m (q + 1) s path h × (n ≡ suc m)
 plain_back p q zero s path h e t = let f : next.At (q + 1) ≡ next.Halted h = sym (ap (λ (x : Step). x.next) (plain_step p q s e)) ∙ t.1 in absurd cc
 plain_back p q (suc n) s path h e t =
     let g = plain_step p q s e in
@@ -163,6 +167,7 @@ plain_back p q (suc n) s path h e t =
       n,
       subst (λ x. TakesDecisions p n x s path h) line
           (subst (λ x. TakesDecisions p n t.0 s x h) same (subst (λ x. TakesDecisions p n t.0 x t.1 h) (ap (λ (x : Step). x.state) g) t.4)),
+      refl,
     )
 
 head_back : (p : Procedure) (loops : List LoopInfo) (q : ℕ) (ws : List Way) (n : ℕ) (s : State) (h : Halt) → WaysAreSteps → IsChecked p → AreRegions p loops → IsInRange p.places s

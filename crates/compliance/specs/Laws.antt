@@ -1,5 +1,5 @@
 -- What holds of the runs and the threats of each checked procedure in which no cycle is twice entered.
-use Rattle.std.specs.Prelude.{◌≡◌, ◌↔◌, ◌≤◌, ℕ, List, length}
+use Rattle.std.specs.Prelude.{◌≡◌, ◌↔◌, ◌+◌, ◌*◌, ◌<◌, ◌≤◌, ℕ, List, length}
 use Rattle.il_core.specs.Evaluation.{State}
 use Rattle.il_core.specs.Input.{IsInput}
 use Rattle.il_core.specs.LineGraph.{IsIn}
@@ -19,7 +19,7 @@ use Rattle.path_inputs.specs.Laws.{AreInCore}
 use Rattle.compliance.specs.Opening.{opening, StayWithin}
 use Rattle.semantic_tables.specs.Row.{forms_of}
 use Rattle.compliance.specs.Threat.{IsThreat, AreThreats}
-use Rattle.compliance.specs.Verdict.{TakesPath, IsFirstLoose, HasVerdict}
+use Rattle.compliance.specs.Verdict.{TakesDecisions, TakesPath, IsFirstLoose, HasVerdict}
 use Rattle.compliance.specs.Safe.{AreThreatsOf, IsSafeWhereRefuted}
 use Rattle.compliance.specs.declared.threat.Threat.{Threat}
 use Rattle.compliance.specs.declared.threat.Verdict.{Verdict}
@@ -61,6 +61,11 @@ LeastInputsTakeThreats = (p : Procedure) (loops : List LoopInfo) (pc : ℕ) (r :
 abbrev pub OpenThreatsAreLoose : Type 0
 OpenThreatsAreLoose = (p : Procedure) (loops : List LoopInfo) (pc : ℕ) (r : RegionPath) (s : State) → BeginsRegion p loops pc → IsThreat p loops pc r
     → IsLeastInput p.places pc (forms_of r) s → (TakesPath p pc s r → ⊥) → (i : ℕ) × IsFirstLoose (forms_of r) i
+
+-- a run that takes a threat makes at most twice as many steps as there are lines, and two
+abbrev pub ThreatsAreTakenSoon : Type 0
+ThreatsAreTakenSoon = (p : Procedure) (loops : List LoopInfo) (pc : ℕ) (r : RegionPath) (s : State) (n : ℕ) (h : Halt) → BeginsRegion p loops pc → IsThreat p loops pc r
+    → IsInput p.places pc s → r.stop ≡ Halted h → TakesDecisions p n pc s r.row.path h → n < 2 * length p.lines + 2
 
 -- no path has two verdicts
 abbrev pub OneVerdict : Type 0

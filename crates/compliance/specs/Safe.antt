@@ -1,11 +1,13 @@
 -- The threats of all regions within their size, region by region, each with its verdict.
-use Rattle.std.specs.Prelude.{◌≡◌, ℕ, Option, Some, None, List, [], ◌∷◌, ◌++◌, map}
+use Rattle.std.specs.Prelude.{◌≡◌, ℕ, ℤ, Option, Some, None, List, [], ◌∷◌, ◌++◌, map, slice_get}
 use Rattle.il_core.specs.LineGraph.{IsIn}
 use Rattle.il_core.specs.Procedure.{Procedure}
 use Rattle.il_core.specs.Run.{HasNoBadRun}
 use Rattle.il_core.specs.declared.line.Stop.TheVariants.{Halted}
 use Rattle.control_flow.specs.declared.control.LoopInfo.{LoopInfo}
-use Rattle.sym_simplify.specs.Literal.{literal_form_of}
+use Rattle.il_core.specs.declared.operator.Relation.{Relation}
+use Rattle.sym_simplify.specs.Form.{Form}
+use Rattle.sym_simplify.specs.Literal.{keep, literal_form_of}
 use Rattle.region_paths.specs.Region.{first_lines}
 use Rattle.region_paths.specs.Listing.{RegionPath}
 use Rattle.region_paths.specs.Size.{IsPast}
@@ -14,7 +16,7 @@ use Rattle.semantic_tables.specs.Row.{forms_of}
 use Rattle.compliance.specs.Threat.{AreThreats}
 use Rattle.compliance.specs.Verdict.{HasVerdict}
 use Rattle.compliance.specs.declared.threat.Threat.{Threat}
-use Rattle.compliance.specs.declared.threat.Verdict.TheVariants.{Refuted}
+use Rattle.compliance.specs.declared.threat.Verdict.TheVariants.{Refuted, Open}
 
 -- a threat of the region of line pc with its verdict
 pub record IsTold (p : Procedure) (pc : ℕ) (r : RegionPath) (t : Threat) : Type 0 where
@@ -43,3 +45,8 @@ AreThreatsOf p loops (pc ∷ lines) ts = (here : List Threat) × (others : List 
 -- where no region is past its size and each threat listed is refuted, no run from the precondition halts badly
 abbrev pub IsSafeWhereRefuted : Procedure → List LoopInfo → List Threat → Type 0
 IsSafeWhereRefuted p loops ts = ((pc : ℕ) → IsIn (first_lines loops) pc → IsPast p loops pc None) → ((t : Threat) → IsIn ts t → t.verdict ≡ Refuted) → HasNoBadRun p
+
+-- the literal that an open threat names is there, and compares a term
+abbrev pub NamesItsLiteral : Threat → Type 0
+NamesItsLiteral t = (i : ℕ) → t.verdict ≡ Open i
+    → (n : Form) × (r : Relation) × (bound : ℤ) × (slice_get (map literal_form_of t.literals) i ≡ Some (keep n r bound))

@@ -1,5 +1,5 @@
 //! Laws of runs and threats, as contracts of functions that do nothing.
-ghost use Rattle.compliance.specs.Laws.{ShortPathsStayWithin, ThreatsAreListed, RefutedThreatsMeanNoBadRun, RefutedListsMeanNoBadRun, ThreatsAreTakenWhereMet, LeastInputsTakeThreats, OpenThreatsAreLoose, OneVerdict};
+ghost use Rattle.compliance.specs.Laws.{ShortPathsStayWithin, ThreatsAreListed, RefutedThreatsMeanNoBadRun, RefutedListsMeanNoBadRun, ThreatsAreTakenWhereMet, LeastInputsTakeThreats, OpenThreatsAreLoose, ThreatsAreTakenSoon, OneVerdict};
 
 use path_inputs::{least_meets_core, unmet_is_loose};
 use region_paths::{inputs_take_one_path, one_listing, paths_are_listed};
@@ -61,6 +61,15 @@ pub fn open_threats_are_loose()
 {
     ways_are_steps();
     unmet_is_loose();
+}
+
+/// An input that takes a threat does so in at most twice as many steps as there are lines, and two: before the first
+/// head no line comes up twice, and the leading assertions behind it follow one another.
+pub fn threats_are_taken_soon()
+    ensures { ThreatsAreTakenSoon }
+{
+    ways_are_steps();
+    ways_go_along_arcs();
 }
 
 /// No path has two verdicts.

@@ -1,24 +1,103 @@
 //! The threats of all regions.
-ghost use Rattle.std.specs.Prelude.{◌≡◌, IfOk};
-ghost use Rattle.il_core.specs.Checked.{procedure_of};
+ghost use Rattle.std.specs.Prelude.{◌≡◌, ◌++◌, Some, List, All, IfOk, OnOk, length, map, filter};
+ghost use Rattle.il_core.specs.LineGraph.{IsIn};
+ghost use Rattle.il_core.specs.Checked.{procedure_of, IsChecked};
+ghost use Rattle.il_core.specs.declared.line.Halt.{Halt};
 ghost use Rattle.flow_graph.specs.Graph.{graph_of};
 ghost use Rattle.control_flow.specs.Control.{IsControlOf};
 ghost use Rattle.control_flow.specs.declared.control.Shape.TheVariants.{Reducible};
 ghost use Rattle.interval_reduce.specs.Derivation.{IsDerivationOf};
 ghost use Rattle.test_graph.specs.Lowered.{IsLowered};
-ghost use Rattle.region_paths.specs.Region.{first_lines};
-ghost use Rattle.compliance.specs.Safe.{AreThreatsOf, IsSafeWhereRefuted};
+ghost use Rattle.region_paths.specs.Region.{first_lines, leading_of};
+ghost use Rattle.region_paths.specs.Listing.{RegionPath};
+ghost use Rattle.region_paths.specs.Walk.{AreLines};
+ghost use Rattle.semantic_tables.specs.Row.{row_of, normal_row};
+ghost use Rattle.semantic_tables.specs.Fit.{HasSoundLiterals};
+ghost use Rattle.compliance.specs.Behind as behind;
+ghost use Rattle.compliance.specs.Behind.{IsThreatRow, is_bad_behind, AddsRegion, AddsTold};
+ghost use Rattle.compliance.specs.Safe.{AreThreatsOf, IsSafeWhereRefuted, NamesItsLiteral};
+ghost use Rattle.compliance.specs.declared.threat.Threat as the_threat;
 
+use crate::judging::judged;
+use crate::laws::refuted_lists_mean_no_bad_run;
+use crate::opening::bad_halt;
 use crate::threat::Threat;
 use control_flow::Control;
 use il_core::{CheckedProc, List, NoMemory};
 use interval_reduce::Derivation;
+use semantic_tables::{Row, TableOr, long_rows};
 use std::alloc::Global;
-use test_graph::TestGraph;
+use test_graph::{TestGraph, ways_go_along_arcs};
 
-/// The threats of all regions within their size, region by region in the order of their decisions, each with its verdict.
+/// The lines and places of a procedure are those of a checked one.
+fn told_checked(proc: &CheckedProc)
+    ensures { IsChecked (procedure_of proc.now) }
+{
+    let _places = proc.places();
+}
+
+/// Adds the threats among the rows of the region of line `pc`, whose leading assertions are given.
+fn add_threats(
+    alloc: Global,
+    proc: &CheckedProc,
+    graph: &TestGraph,
+    pc: usize,
+    leading: &[usize],
+    rows: List<Row>,
+    found: &mut List<Threat>,
+) -> Result<(), NoMemory>
+    requires lowered { IsLowered (procedure_of proc.now) graph.now }
+    requires leading { AreLines (procedure_of proc.now) leading.now }
+    requires rows { All (λ row. (h : Halt) → behind.bad_halt (procedure_of proc.now) leading.now row.stop row.path ≡ Some h → IsThreatRow (procedure_of proc.now) pc row) rows }
+    requires fits { All (HasSoundLiterals (length proc.now.places)) rows }
+    ensures { OnOk result ((paths : List RegionPath) → map row_of rows ≡ map normal_row paths → AddsTold (procedure_of proc.now) pc (filter (is_bad_behind (procedure_of proc.now) leading.now) paths) found.old found.new) }
+{
+    for row in rows.into_vec() {
+        if let Some(halt) = bad_halt(proc, graph, leading, &row) {
+            found.push(judged(alloc, proc, pc, row, halt)?)?;
+        }
+    }
+    Ok(())
+}
+
+/// Adds the threats of the region of line `pc`, whose leading assertions are given, where it is within its size.
+fn add_region(
+    alloc: Global,
+    proc: &CheckedProc,
+    graph: &TestGraph,
+    control: &Control,
+    derivation: &Derivation,
+    pc: usize,
+    leading: &[usize],
+    found: &mut List<Threat>,
+) -> Result<(), NoMemory>
+    requires checked { IsChecked (procedure_of proc.now) }
+    requires lowered { IsLowered (procedure_of proc.now) graph.now }
+    requires control { IsControlOf (graph_of (procedure_of proc.now)) control.now }
+    requires shape { control.now.shape ≡ Reducible }
+    requires derivation { IsDerivationOf (graph_of (procedure_of proc.now)) control.now.shape derivation.now }
+    requires first { IsIn (first_lines control.now.loops) pc }
+    requires leading { leading.now ≡ leading_of control.now.loops pc }
+    ensures { OnOk result (AddsRegion (procedure_of proc.now) control.now.loops pc found.old found.new) }
+{
+    ways_go_along_arcs();
+    match long_rows(alloc, proc, graph, control, derivation, pc)? {
+        TableOr::Past(_) => Ok(()),
+        TableOr::Table(rows) => add_threats(alloc, proc, graph, pc, leading, rows, found),
+    }
+}
+
+/// The threats of all regions within their size, region by region and in each in the order of their decisions, each with
+/// its verdict: refuted, shown by an input from which the lines were stepped, or open at its first loose literal. Where
+/// no region is past its size and each threat is refuted, no run from the precondition faults, fails an assertion or
+/// ends outside the postcondition, however long it is.
+///
+/// `graph`, `control` and `derivation` are those of `proc`, whose shape is reducible. `NoMemory` comes only where memory
+/// runs out. Each region's rows are made by `long_rows` and given up before those of the next; a threat costs one call
+/// of `least_input` and at most twice as many steps as there are lines. The pieces of a run from one head to the next
+/// are those of the method of inductive assertions (R. W. Floyd, Assigning meanings to programs, 1967).
 pub fn threats(
-    _alloc: Global,
+    alloc: Global,
     proc: &CheckedProc,
     graph: &TestGraph,
     control: &Control,
@@ -29,7 +108,18 @@ pub fn threats(
     requires shape { control.now.shape ≡ Reducible }
     requires derivation { IsDerivationOf (graph_of (procedure_of proc.now)) control.now.shape derivation.now }
     ensures threats { IfOk result (λ ts. AreThreatsOf (procedure_of proc.now) control.now.loops (first_lines control.now.loops) ts) }
+    ensures named { IfOk result (λ ts. (t : the_threat.Threat) → IsIn ts t → NamesItsLiteral t) }
     ensures safe { IfOk result (λ ts. IsSafeWhereRefuted (procedure_of proc.now) control.now.loops ts) }
 {
-    Err(NoMemory)
+    told_checked(proc);
+    refuted_lists_mean_no_bad_run();
+    let mut found = List::new(alloc);
+    add_region(alloc, proc, graph, control, derivation, 0, &[], &mut found)?;
+    for info in control.loops.as_slice() {
+        let leading = info.leading.as_slice();
+        add_region(
+            alloc, proc, graph, control, derivation, info.head, leading, &mut found,
+        )?;
+    }
+    Ok(found)
 }

@@ -1,7 +1,6 @@
 //! The expressions of a text, as preconditions.
-use crate::words::tokens_of;
-use il_core::{BinOp, Form, NoMemory, RawExpr, Relation, TextEnd};
-use il_syntax::parse;
+use crate::texts::statements_of;
+use il_core::{BinOp, Form, RawExpr, Relation};
 use std::alloc::{AllocError, Global};
 use std::test::Fail;
 
@@ -78,20 +77,22 @@ fn reading(alloc: Global, words: &str) -> Result<Vec<u8>, Fail> {
     let text = format!(in alloc;
         "TITLE t ; PROC p ; PRE {words} ; POST TRUE ; ENDPROC ; FINISH ;"
     )?;
-    let tokens = tokens_of(alloc, text.as_str())?;
     let mut out = Vec::new(alloc);
-    match parse(alloc, text.len(), tokens.as_slice()) {
+    match statements_of(alloc, text.as_bytes())? {
         Ok(stmts) => match stmts.get(2).map(|stmt| &stmt.form) {
             Some(Form::Pre(tree)) => rendered(&mut out, tree)?,
             _ => return Err(Fail::from("no precondition")),
         },
-        Err(TextEnd::Refused(refusal)) => {
+        Err(refusal) => {
             let (code, place) = (refusal.code, refusal.place);
             out.extend_from_slice(format!(in alloc; "{code:?} {place}")?.as_bytes())?;
         }
-        Err(TextEnd::NoMemory) => return Err(Fail::from(NoMemory)),
     }
     Ok(out)
+}
+
+fn is_as(alloc: Global, words: &str, want: &str) -> Result<bool, Fail> {
+    Ok(reading(alloc, words)?.as_slice() == want.as_bytes())
 }
 
 #[test]
@@ -122,11 +123,7 @@ fn reads_by_level(rt: HostRuntime) -> Result<(), Fail> {
         ("", NONE),
     ];
     for (text, want) in cases {
-        assert_eq!(rt;
-            reading(rt.alloc(), text)?.as_slice(),
-            want.as_bytes(),
-            "at {text}"
-        );
+        assert!(rt; is_as(rt.alloc(), text, want)?, "at {text}");
     }
     Ok(())
 }
@@ -135,11 +132,7 @@ fn reads_by_level(rt: HostRuntime) -> Result<(), Fail> {
 fn depth_counts_parentheses(rt: HostRuntime) -> Result<(), Fail> {
     for (depth, want) in [(1, "a"), (200, "a"), (201, NONE)] {
         let text = nested(rt.alloc(), depth)?;
-        assert_eq!(rt;
-            reading(rt.alloc(), text.as_str())?.as_slice(),
-            want.as_bytes(),
-            "at {depth}"
-        );
+        assert!(rt; is_as(rt.alloc(), text.as_str(), want)?, "at {depth}");
     }
     Ok(())
 }

@@ -1,7 +1,6 @@
 //! What lies between the layers: texts through the lexer and the parser.
-use il_core::{Code, TextEnd};
-use il_lexer::lex;
-use il_syntax::parse;
+use crate::texts::statements_of;
+use il_core::Code;
 use std::alloc::Global;
 use std::test::Fail;
 
@@ -14,19 +13,9 @@ const VALVE: &[u8] =
 
 /// The number of statements of a text, or the code and place of its refusal.
 fn statements_in(alloc: Global, text: &[u8]) -> Result<Result<usize, (Code, usize)>, Fail> {
-    if text.len() > 1_048_576 {
-        return Err(Fail::from("too long"));
-    }
-    let end = match lex(alloc, text) {
-        Ok(tokens) => match parse(alloc, text.len(), tokens.as_slice()) {
-            Ok(stmts) => return Ok(Ok(stmts.len())),
-            Err(end) => end,
-        },
-        Err(end) => end,
-    };
-    match end {
-        TextEnd::Refused(refusal) => Ok(Err((refusal.code, refusal.place))),
-        TextEnd::NoMemory => Err(Fail::from("out of memory")),
+    match statements_of(alloc, text)? {
+        Ok(stmts) => Ok(Ok(stmts.len())),
+        Err(refusal) => Ok(Err((refusal.code, refusal.place))),
     }
 }
 

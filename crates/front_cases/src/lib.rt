@@ -16,6 +16,6 @@ mod rules;
 #[cfg(test)]
 mod statements;
 #[cfg(test)]
-mod tokens;
+mod texts;
 #[cfg(test)]
-mod words;
+mod tokens;

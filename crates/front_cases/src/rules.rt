@@ -1,130 +1,77 @@
 //! The first fault of a text by the rules of names, types, modes and ranges.
-use il_core::{Bound, Code, Form, List, Mode, Name, RawExpr, Refusal, Stmt, TypeUse};
+use crate::texts::{number_at, statements_of};
+use il_core::{Code, Name};
 use il_types::first_refusal;
 use std::alloc::Global;
 use std::test::Fail;
 
-fn name(text: &str) -> Result<Name, Fail> {
-    let name = Name::new(text.as_bytes()).ok_or("no name")?;
-    Ok(name)
-}
+/// A declaration, which is statement 2, a precondition, statement 6, an assignment, statement 8, and what refuses them.
+type Case<'a> = (&'a str, &'a str, &'a str, Option<(Code, usize, &'a str)>);
 
-/// The answer to a text of eleven statements, of which three are chosen; each place is the statement's number.
-fn answer(
-    alloc: Global,
-    declared: Form,
-    precondition: RawExpr,
-    assigned: Form,
-) -> Result<Option<Refusal>, Fail> {
-    let mut forms = Vec::new(alloc);
-    forms.push(Form::Title(name("t")?))?;
-    forms.push(Form::Const(name("c")?, 3))?;
-    forms.push(declared)?;
-    forms.push(Form::Proc(name("p")?))?;
-    forms.push(Form::Variable(
-        Mode::Input,
-        name("a")?,
-        TypeUse::Range(Bound::Number(0), Bound::Constant(name("c")?)),
-    ))?;
-    forms.push(Form::Variable(Mode::Local, name("b")?, TypeUse::Bool))?;
-    forms.push(Form::Pre(precondition))?;
-    forms.push(Form::Post(RawExpr::Truth(true)))?;
-    forms.push(assigned)?;
-    forms.push(Form::EndProc)?;
-    forms.push(Form::Finish)?;
-    let mut stmts = Vec::new(alloc);
-    let mut place = 0usize;
-    for form in forms {
-        stmts.push(Stmt { place, form })?;
-        place = place.saturating_add(1);
+/// Whether the first refusal of a case is the wanted one: its code, the number of its statement, and its name, if any.
+fn is_as(alloc: Global, case: &Case) -> Result<bool, Fail> {
+    let (declared, condition, assigned, wanted) = case;
+    let text = format!(in alloc;
+        "TITLE t;CONST c = 3;TYPE {declared};PROC p;IN a : 0 .. c;LOCAL b : BOOL;PRE {condition};POST TRUE;{assigned};ENDPROC;FINISH;"
+    )?;
+    let Ok(stmts) = statements_of(alloc, text.as_bytes())? else {
+        return Err(Fail::from("no statements"));
+    };
+    match (first_refusal(alloc, stmts.as_slice())?, wanted) {
+        (None, None) => Ok(true),
+        (Some(found), Some((code, number, name))) => Ok(
+            found.code == *code
+                && number_at(text.as_str(), found.place) == *number
+                && found.name == Name::new(name.as_bytes()),
+        ),
+        _ => Ok(false),
     }
-    Ok(first_refusal(alloc, &stmts)?)
-}
-
-fn found(code: Code, place: usize, name: Option<Name>) -> Option<Refusal> {
-    Some(Refusal { code, place, name })
-}
-
-fn assign(target: &str, value: RawExpr) -> Result<Form, Fail> {
-    Ok(Form::Assign(name(target)?, value))
-}
-
-fn range(least: i64, greatest: Bound) -> Result<Form, Fail> {
-    Ok(Form::RangeType(name("r")?, Bound::Number(least), greatest))
-}
-
-fn values(alloc: Global, first: &str, second: &str) -> Result<Form, Fail> {
-    let mut values = List::new(alloc);
-    values.push(name(first)?)?;
-    values.push(name(second)?)?;
-    Ok(Form::EnumType(name("e")?, values))
 }
 
 #[test]
 fn texts_are_answered(rt: HostRuntime) -> Result<(), Fail> {
-    let alloc = rt.alloc();
-    let kept = answer(
-        alloc,
-        range(0, Bound::Number(9))?,
-        RawExpr::Truth(true),
-        assign("b", RawExpr::Truth(false))?,
-    )?;
-    assert_eq!(rt; kept, None);
-    let repeated = answer(
-        alloc,
-        values(alloc, "x", "e")?,
-        RawExpr::Truth(true),
-        assign("b", RawExpr::Truth(true))?,
-    )?;
-    assert_eq!(rt; repeated, found(Code::Twice, 2, Some(name("e")?)));
-    let hidden = answer(
-        alloc,
-        values(alloc, "x", "b")?,
-        RawExpr::Truth(true),
-        assign("b", RawExpr::Truth(true))?,
-    )?;
-    assert_eq!(rt; hidden, found(Code::Twice, 5, Some(name("b")?)));
-    let unknown = answer(
-        alloc,
-        range(0, Bound::Constant(name("a")?))?,
-        RawExpr::Truth(true),
-        assign("b", RawExpr::Truth(true))?,
-    )?;
-    assert_eq!(rt; unknown, found(Code::Unknown, 2, Some(name("a")?)));
-    let mistyped = answer(
-        alloc,
-        range(0, Bound::Number(9))?,
-        RawExpr::Truth(true),
-        assign("b", RawExpr::Ident(name("a")?))?,
-    )?;
-    assert_eq!(rt; mistyped, found(Code::Typing, 8, None));
-    let other = answer(
-        alloc,
-        values(alloc, "x", "y")?,
-        RawExpr::Ident(name("x")?),
-        assign("b", RawExpr::Truth(true))?,
-    )?;
-    assert_eq!(rt; other, found(Code::Typing, 6, None));
-    let local = answer(
-        alloc,
-        range(0, Bound::Number(9))?,
-        RawExpr::Ident(name("b")?),
-        assign("b", RawExpr::Truth(true))?,
-    )?;
-    assert_eq!(rt; local, found(Code::Access, 6, None));
-    let input = answer(
-        alloc,
-        range(0, Bound::Number(9))?,
-        RawExpr::Truth(true),
-        assign("a", RawExpr::Num(1))?,
-    )?;
-    assert_eq!(rt; input, found(Code::Access, 8, None));
-    let empty = answer(
-        alloc,
-        range(4, Bound::Constant(name("c")?))?,
-        RawExpr::Truth(true),
-        assign("b", RawExpr::Truth(true))?,
-    )?;
-    assert_eq!(rt; empty, found(Code::EmptyRange, 2, None));
+    let cases: [Case; 9] = [
+        ("r = 0 .. 9", "TRUE", "b := FALSE", None),
+        (
+            "e = ( x , e )",
+            "TRUE",
+            "b := TRUE",
+            Some((Code::Twice, 2, "e")),
+        ),
+        (
+            "e = ( x , b )",
+            "TRUE",
+            "b := TRUE",
+            Some((Code::Twice, 5, "b")),
+        ),
+        (
+            "r = 0 .. a",
+            "TRUE",
+            "b := TRUE",
+            Some((Code::Unknown, 2, "a")),
+        ),
+        ("r = 0 .. 9", "TRUE", "b := a", Some((Code::Typing, 8, ""))),
+        (
+            "e = ( x , y )",
+            "x",
+            "b := TRUE",
+            Some((Code::Typing, 6, "")),
+        ),
+        ("r = 0 .. 9", "b", "b := TRUE", Some((Code::Access, 6, ""))),
+        ("r = 0 .. 9", "TRUE", "a := 1", Some((Code::Access, 8, ""))),
+        (
+            "r = 4 .. c",
+            "TRUE",
+            "b := TRUE",
+            Some((Code::EmptyRange, 2, "")),
+        ),
+    ];
+    for case in cases.iter() {
+        let (declared, condition, assigned, _) = case;
+        assert!(rt;
+            is_as(rt.alloc(), case)?,
+            "{declared} {condition} {assigned}"
+        );
+    }
     Ok(())
 }

@@ -1,6 +1,7 @@
 //! What no clause says: that the definitions mean the tokens of the text language, and that a call succeeds.
-use il_core::{Code, Keyword, Name, Symbol, TextEnd, TokenKind};
+use il_core::{Code, Keyword, Name, NoMemory, Symbol, TextEnd, TokenKind};
 use il_lexer::lex;
+use std::alloc::Global;
 use std::test::Fail;
 
 fn name(bytes: &[u8]) -> Result<TokenKind, Fail> {
@@ -42,11 +43,11 @@ fn tokens_with_spans(rt: HostRuntime) -> Result<(), Fail> {
     ];
     let tokens = lex(rt.alloc(), text)?;
     assert_eq!(rt; tokens.len(), wanted.len());
-    for (i, (kind, first, after)) in wanted.iter().enumerate() {
-        let token = tokens.get(i).ok_or("too few")?;
-        assert!(rt; token.kind == *kind, "token {i}");
-        assert_eq!(rt; token.first, *first, "token {i}");
-        assert_eq!(rt; token.after, *after, "token {i}");
+    for (token, (kind, first, after)) in tokens.as_slice().iter().zip(wanted) {
+        assert!(rt;
+            token.kind == kind && token.first == first && token.after == after,
+            "at {first}"
+        );
     }
     Ok(())
 }
@@ -54,6 +55,18 @@ fn tokens_with_spans(rt: HostRuntime) -> Result<(), Fail> {
 /// The front of a text, which ends inside a token.
 const COPY: &[u8] =
     b"TITLE copy;\nPROC p;\nIN a : 0 .. 9;\nINOUT b : 0 .. 9;\nOUT c : 0 .. 9;\nLOCAL d : 0 .. 9;\n";
+
+/// Whether a text is refused with this code at this place or, without a code, has this number of tokens.
+fn is_as(alloc: Global, text: &[u8], code: Option<Code>, number: usize) -> Result<bool, Fail> {
+    if text.len() > 1_048_576 {
+        return Err(Fail::from("too long"));
+    }
+    match lex(alloc, text) {
+        Ok(tokens) => Ok(code.is_none() && tokens.len() == number),
+        Err(TextEnd::Refused(refusal)) => Ok(Some(refusal.code) == code && refusal.place == number),
+        Err(TextEnd::NoMemory) => Err(Fail::from(NoMemory)),
+    }
+}
 
 #[test]
 fn readings(rt: HostRuntime) -> Result<(), Fail> {
@@ -117,14 +130,7 @@ fn readings(rt: HostRuntime) -> Result<(), Fail> {
         (&COPY[..82], Some(Code::Lexical), 81),
     ];
     for (text, code, number) in cases {
-        assert!(rt; text.len() <= 1048576);
-        let (seen, at) = match lex(rt.alloc(), text) {
-            Ok(tokens) => (None, tokens.len()),
-            Err(TextEnd::Refused(refusal)) => (Some(refusal.code), refusal.place),
-            Err(TextEnd::NoMemory) => return Err(Fail::from("out of memory")),
-        };
-        assert!(rt; seen == code, "{text:?}");
-        assert_eq!(rt; at, number, "{text:?}");
+        assert!(rt; is_as(rt.alloc(), text, code, number)?, "{text:?}");
     }
     Ok(())
 }

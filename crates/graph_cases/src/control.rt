@@ -1,36 +1,56 @@
-//! The control structure of graphs that are written out.
-use crate::drawn::{endless, straight, twice_entered};
-use control_flow::{Control, Shape, control_of, reducible_cycles_hold_a_head};
+//! The control structure of graphs.
+use crate::texts::{ENDLESS, STRAIGHT, TWICE_ENTERED, graph_of};
+use control_flow::{Control, LoopInfo, Shape, control_of, reducible_cycles_hold_a_head};
+use std::alloc::Global;
 use std::test::Fail;
 
-#[test]
-fn straight_lines_are_reducible(rt: HostRuntime) -> Result<(), Fail> {
-    reducible_cycles_hold_a_head();
-    let graph = straight(rt.alloc())?;
-    let control = control_of(rt.alloc(), &graph)?;
-    assert!(rt; control.unreachable.is_empty() && control.stuck.is_empty());
-    assert!(rt; control.loops.is_empty() && matches!(control.shape, Shape::Reducible));
-    Ok(())
+/// A body, unreachable lines, stuck lines, and of each loop its head, members and leading lines.
+type Case<'a> = (
+    &'a str,
+    &'a [usize],
+    &'a [usize],
+    &'a [(usize, &'a [usize], &'a [usize])],
+);
+
+fn are_loops(loops: &[LoopInfo], wanted: &[(usize, &[usize], &[usize])]) -> bool {
+    loops.len() == wanted.len()
+        && loops.iter().zip(wanted).all(|(info, (head, members, leading))| {
+            info.head == *head
+                && info.members.as_slice() == *members
+                && info.leading.as_slice() == *leading
+        })
+}
+
+/// Whether the graph of a case is reducible and as the case shows it.
+fn is_as(alloc: Global, case: &Case) -> Result<bool, Fail> {
+    let (body, unreachable, stuck, loops) = case;
+    let graph = graph_of(alloc, body)?;
+    let control = control_of(alloc, &graph)?;
+    Ok(
+        matches!(control.shape, Shape::Reducible)
+            && control.unreachable.as_slice() == *unreachable
+            && control.stuck.as_slice() == *stuck
+            && are_loops(control.loops.as_slice(), loops),
+    )
 }
 
 #[test]
-fn an_endless_loop_is_stuck(rt: HostRuntime) -> Result<(), Fail> {
-    let graph = endless(rt.alloc())?;
-    let control = control_of(rt.alloc(), &graph)?;
-    assert_eq!(rt; control.unreachable.as_slice(), [4].as_slice());
-    assert_eq!(rt; control.stuck.as_slice(), [0, 1, 2, 3].as_slice());
-    assert_eq!(rt; control.loops.len(), 1);
-    for info in control.loops.as_slice() {
-        assert_eq!(rt; info.head, 1);
-        assert_eq!(rt; info.members.as_slice(), [1, 2, 3].as_slice());
-        assert!(rt; info.leading.is_empty());
+fn reducible_graphs(rt: HostRuntime) -> Result<(), Fail> {
+    reducible_cycles_hold_a_head();
+    let cases: [Case; 2] = [
+        (STRAIGHT, &[], &[], &[]),
+        (ENDLESS, &[4], &[0, 1, 2, 3], &[(1, &[1, 2, 3], &[])]),
+    ];
+    for case in cases.iter() {
+        let (body, _, _, _) = case;
+        assert!(rt; is_as(rt.alloc(), case)?, "{body}");
     }
     Ok(())
 }
 
 #[test]
 fn a_jump_into_a_loop_is_shown(rt: HostRuntime) -> Result<(), Fail> {
-    let graph = twice_entered(rt.alloc())?;
+    let graph = graph_of(rt.alloc(), TWICE_ENTERED)?;
     let Control {
         unreachable,
         stuck,

@@ -1,94 +1,73 @@
-//! The levels of graphs that are written out, and the order in which they take the lines.
-ghost use Rattle.std.specs.Prelude.{IfOk};
-ghost use Rattle.flow_graph.specs.Graph.{IsWellFormed};
-
-use crate::drawn::{LAST, OTHER, PLAIN, TEST, graph_of, straight, twice_entered};
+//! The levels of graphs, and the order in which they take the lines.
+use crate::texts::{STRAIGHT, TWICE_ENTERED, graph_of};
 use control_flow::control_of;
-use flow_graph::{Arc, FlowGraph};
-use il_core::{List, NoMemory};
-use interval_reduce::{
-    Derivation, Interval, derive, levels_tell_shape, one_derivation, reduction_theorem,
-};
+use il_core::List;
+use interval_reduce::{Interval, derive, levels_tell_shape, one_derivation, reduction_theorem};
 use std::alloc::Global;
 use std::test::Fail;
 
-/// The derivation of a graph.
-fn derived(alloc: Global, graph: &FlowGraph) -> Result<Derivation, NoMemory>
-    requires { IsWellFormed graph.now }
-{
-    let control = control_of(alloc, graph)?;
-    derive(alloc, graph, &control)
+/// A body, the members of the intervals of each level, and the order in which the lines are taken.
+type Case<'a> = (&'a str, &'a [&'a [&'a [usize]]], &'a [usize]);
+
+/// A loop that is entered at its last line, and whose first line begins another loop.
+const DESCENDING: &str =
+    "GOTO a;LOOP;LOOP;EXIT WHEN x = 1;ENDLOOP;EXIT WHEN x = 2;LABEL a;ENDLOOP;";
+
+fn has_intervals(level: &List<Interval>, wanted: &[&[usize]]) -> bool {
+    level.len() == wanted.len()
+        && level.as_slice().iter().zip(wanted).all(|(interval, members)| interval.members.as_slice()
+            == *members)
 }
 
-/// The members of an interval; none where it is not there.
-fn members_at(levels: &List<List<Interval>>, level: usize, at: usize) -> &[usize] {
-    match levels.get(level) {
-        Some(intervals) => match intervals.get(at) {
-            Some(interval) => interval.members.as_slice(),
-            None => &[],
-        },
-        None => &[],
-    }
+fn has_levels(levels: &List<List<Interval>>, wanted: &[&[&[usize]]]) -> bool {
+    levels.len() == wanted.len()
+        && levels
+            .as_slice()
+            .iter()
+            .zip(wanted)
+            .all(|(level, intervals)| has_intervals(level, intervals))
 }
 
-/// GOTO a; LOOP; LOOP; EXIT WHEN; ENDLOOP; EXIT WHEN; LABEL a; ENDLOOP.
-fn descending(alloc: Global) -> Result<FlowGraph, NoMemory>
-    ensures { IfOk result IsWellFormed }
-{
-    let nodes = [
-        OTHER, OTHER, PLAIN, PLAIN, TEST, OTHER, TEST, PLAIN, OTHER, LAST,
-    ];
-    let arcs = [
-        Arc { tail: 0, head: 1 },
-        Arc { tail: 1, head: 7 },
-        Arc { tail: 2, head: 3 },
-        Arc { tail: 3, head: 4 },
-        Arc { tail: 4, head: 6 },
-        Arc { tail: 4, head: 5 },
-        Arc { tail: 5, head: 3 },
-        Arc { tail: 6, head: 9 },
-        Arc { tail: 6, head: 7 },
-        Arc { tail: 7, head: 8 },
-        Arc { tail: 8, head: 2 },
-    ];
-    graph_of(alloc, &nodes, &arcs)
+/// Whether the graph of a case has the levels and the order of the case.
+fn is_as(alloc: Global, case: &Case) -> Result<bool, Fail> {
+    let (body, levels, order) = case;
+    let graph = graph_of(alloc, body)?;
+    let control = control_of(alloc, &graph)?;
+    let derivation = derive(alloc, &graph, &control)?;
+    Ok(has_levels(&derivation.levels, levels) && derivation.order.as_slice() == *order)
 }
 
 #[test]
-fn straight_code_is_one_interval(rt: HostRuntime) -> Result<(), Fail> {
+fn worked_levels(rt: HostRuntime) -> Result<(), Fail> {
     reduction_theorem();
     levels_tell_shape();
     one_derivation();
-    let graph = straight(rt.alloc())?;
-    let Derivation { levels, order } = derived(rt.alloc(), &graph)?;
-    assert_eq!(rt; levels.len(), 1);
-    assert_eq!(rt; members_at(&levels, 0, 0), [0, 1, 2, 3, 4].as_slice());
-    assert_eq!(rt; order.as_slice(), [1, 2, 3].as_slice());
-    Ok(())
-}
-
-#[test]
-fn a_jump_into_a_loop_leaves_single_intervals(rt: HostRuntime) -> Result<(), Fail> {
-    let graph = twice_entered(rt.alloc())?;
-    let Derivation { levels, order } = derived(rt.alloc(), &graph)?;
-    assert_eq!(rt; levels.len(), 2);
-    assert_eq!(rt; members_at(&levels, 0, 0), [0, 1, 2, 3].as_slice());
-    assert_eq!(rt; members_at(&levels, 0, 1), [4, 5].as_slice());
-    assert_eq!(rt; members_at(&levels, 0, 2), [6, 7, 8, 9].as_slice());
-    assert_eq!(rt; members_at(&levels, 1, 0), [0].as_slice());
-    assert_eq!(rt; members_at(&levels, 1, 1), [4].as_slice());
-    assert_eq!(rt; members_at(&levels, 1, 2), [6].as_slice());
-    assert!(rt; order.is_empty());
-    Ok(())
-}
-
-#[test]
-fn intervals_stand_in_the_order_in_which_they_are_made(rt: HostRuntime) -> Result<(), Fail> {
-    let graph = descending(rt.alloc())?;
-    let Derivation { levels, order } = derived(rt.alloc(), &graph)?;
-    assert_eq!(rt; members_at(&levels, 0, 0), [0, 1].as_slice());
-    assert_eq!(rt; members_at(&levels, 0, 1), [7, 8, 2].as_slice());
-    assert_eq!(rt; members_at(&levels, 0, 2), [3, 4, 5, 6, 9].as_slice());
-    assert_eq!(rt; order.as_slice(), [1, 8, 2, 4, 5, 6, 3, 7].as_slice());
+    let cases: [Case; 3] = [
+        // straight code is one interval
+        (STRAIGHT, &[&[&[0, 1, 2, 3, 4]]], &[1, 2, 3]),
+        // a jump into a loop leaves single intervals
+        (
+            TWICE_ENTERED,
+            &[
+                &[&[0, 1, 2, 3], &[4, 5], &[6, 7, 8, 9]],
+                &[&[0], &[4], &[6]],
+            ],
+            &[],
+        ),
+        // intervals stand in the order in which they are made
+        (
+            DESCENDING,
+            &[
+                &[&[0, 1], &[7, 8, 2], &[3, 4, 5, 6, 9]],
+                &[&[0], &[7, 3]],
+                &[&[0, 7]],
+            ],
+            &[1, 8, 2, 4, 5, 6, 3, 7],
+        ),
+    ];
+    for case in cases.iter() {
+        let (body, _, _) = case;
+        assert!(rt; is_as(rt.alloc(), case)?, "{body}");
+    }
     Ok(())
 }

@@ -1,12 +1,11 @@
 //! Worked cases of the layers over lines and graphs, tried through their public calls: the line machine, the graph of a
 //! procedure, its control structure, its intervals, elimination, paths, the use of variables, pairs of paths and the
-//! flow of information. Nothing but tests stands here, one module a layer, so that no layer is proved with its tests.
+//! flow of information. The procedures and graphs are read from texts. Nothing but tests stands here, one module a layer,
+//! so that no layer is proved with its tests.
 #![tactic(auto)]
 
 #[cfg(test)]
 mod control;
-#[cfg(test)]
-mod drawn;
 #[cfg(test)]
 mod elimination;
 #[cfg(test)]
@@ -20,8 +19,10 @@ mod pairs;
 #[cfg(test)]
 mod paths;
 #[cfg(test)]
-mod sample;
+mod rows;
 #[cfg(test)]
 mod steps;
+#[cfg(test)]
+mod texts;
 #[cfg(test)]
 mod uses;

@@ -1,27 +1,8 @@
-//! The graphs of checked procedures.
-use crate::sample::procedure;
-use flow_graph::{Arc, Node, NodeKind, build};
-use il_core::{CheckedProc, Expr, Line, List, Name, NoMemory};
-use std::alloc::Global;
+//! The graphs of procedures.
+use crate::steps::SAMPLE;
+use crate::texts::{accepted, graph_in, graph_of};
+use flow_graph::{Arc, Node, NodeKind};
 use std::test::Fail;
-
-/// PRE TRUE and ENDPROC.
-pub fn smallest(alloc: Global, name: Name) -> Result<CheckedProc, NoMemory> {
-    let mut lines = List::new(alloc);
-    lines.push(Line::Pre(Expr::Truth(true)))?;
-    lines.push(Line::EndProc(Expr::Truth(true)))?;
-    Ok(CheckedProc::new(name, List::new(alloc), lines))
-}
-
-/// PRE TRUE, IF TRUE, ENDIF and ENDPROC.
-fn forked(alloc: Global, name: Name) -> Result<CheckedProc, NoMemory> {
-    let mut lines = List::new(alloc);
-    lines.push(Line::Pre(Expr::Truth(true)))?;
-    lines.push(Line::If(Expr::Truth(true), 2))?;
-    lines.push(Line::EndIf)?;
-    lines.push(Line::EndProc(Expr::Truth(true)))?;
-    Ok(CheckedProc::new(name, List::new(alloc), lines))
-}
 
 /// A line that reads the places of a mask and writes none.
 fn reading(kind: NodeKind, reads: u64) -> Node {
@@ -45,8 +26,7 @@ fn writing(place: usize, reads: u64) -> Node {
 
 #[test]
 fn a_test_has_two_arcs_and_the_end_has_none(rt: HostRuntime) -> Result<(), Fail> {
-    let name = Name::new(b"x").ok_or("no name")?;
-    let graph = build(rt.alloc(), &procedure(rt.alloc(), name)?)?;
+    let graph = graph_in(rt.alloc(), &accepted(rt.alloc(), SAMPLE)?)?;
     let wanted = [
         Arc { tail: 0, head: 1 },
         Arc { tail: 1, head: 2 },
@@ -57,29 +37,37 @@ fn a_test_has_two_arcs_and_the_end_has_none(rt: HostRuntime) -> Result<(), Fail>
         Arc { tail: 6, head: 7 },
         Arc { tail: 7, head: 8 },
         Arc { tail: 8, head: 9 },
-        Arc { tail: 9, head: 12 },
+        Arc { tail: 9, head: 15 },
         Arc { tail: 9, head: 10 },
         Arc { tail: 10, head: 11 },
         Arc { tail: 10, head: 12 },
-        Arc { tail: 11, head: 8 },
-        Arc { tail: 12, head: 13 },
+        Arc { tail: 11, head: 13 },
+        Arc { tail: 12, head: 15 },
+        Arc { tail: 13, head: 14 },
+        Arc { tail: 14, head: 8 },
+        Arc { tail: 15, head: 16 },
+        Arc { tail: 16, head: 17 },
     ];
     assert_eq!(rt; graph.arcs.as_slice(), wanted.as_slice());
-    let forked = build(rt.alloc(), &forked(rt.alloc(), name)?)?;
-    let both = [
+    Ok(())
+}
+
+#[test]
+fn an_empty_arm_has_two_equal_arcs(rt: HostRuntime) -> Result<(), Fail> {
+    let graph = graph_of(rt.alloc(), "IF TRUE;ENDIF;")?;
+    let wanted = [
         Arc { tail: 0, head: 1 },
         Arc { tail: 1, head: 2 },
         Arc { tail: 1, head: 2 },
         Arc { tail: 2, head: 3 },
     ];
-    assert_eq!(rt; forked.arcs.as_slice(), both.as_slice());
+    assert_eq!(rt; graph.arcs.as_slice(), wanted.as_slice());
     Ok(())
 }
 
 #[test]
 fn a_line_reads_and_writes_its_places(rt: HostRuntime) -> Result<(), Fail> {
-    let name = Name::new(b"x").ok_or("no name")?;
-    let graph = build(rt.alloc(), &procedure(rt.alloc(), name)?)?;
+    let graph = graph_in(rt.alloc(), &accepted(rt.alloc(), SAMPLE)?)?;
     let wanted = [
         reading(NodeKind::Other, 0),
         writing(2, 3),
@@ -93,8 +81,15 @@ fn a_line_reads_and_writes_its_places(rt: HostRuntime) -> Result<(), Fail> {
         reading(NodeKind::Test, 7),
         reading(NodeKind::Test, 7),
         reading(NodeKind::Other, 0),
+        reading(NodeKind::Other, 0),
+        reading(NodeKind::Plain, 0),
+        reading(NodeKind::Other, 0),
+        reading(NodeKind::Plain, 0),
         reading(NodeKind::Assertion, 0),
-        reading(NodeKind::Last, 0),
+        Node {
+            last_reads: 28,
+            ..reading(NodeKind::Last, 0)
+        },
     ];
     assert_eq!(rt; graph.nodes.as_slice(), wanted.as_slice());
     Ok(())

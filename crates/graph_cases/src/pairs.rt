@@ -1,12 +1,10 @@
 //! Pairs of paths that share one line.
 ghost use Rattle.std.specs.Prelude.{◌≡◌, ◌<◌, ◌∷◌, ◌++◌, [], ℕ, length, slice_set, slice_index_or, None, IfOk};
-ghost use Rattle.flow_graph.specs.Graph.{IsWellFormed};
 ghost use Rattle.il_core.specs.LineGraph.{IsIn};
 ghost use Rattle.flow_graph.specs.Search.{StayBelow, row_of};
 
-use crate::drawn::{LAST, OTHER, PLAIN, TEST, graph_of};
+use crate::texts::graph_of;
 use disjoint_paths::{Pair, pair_from, two_paths};
-use flow_graph::{Arc, FlowGraph};
 use il_core::{List, NoMemory};
 use std::alloc::Global;
 use std::test::Fail;
@@ -118,27 +116,13 @@ fn a_path_may_come_back_to_the_tail(rt: HostRuntime) -> Result<(), Fail> {
     Ok(())
 }
 
-/// The graph of a test with one arm, which meets its other way at the end.
-fn one_arm(alloc: Global) -> Result<FlowGraph, NoMemory>
-    ensures formed { IfOk result (λ graph. IsWellFormed graph) }
-    ensures size { IfOk result (λ graph. length graph.nodes ≡ 4) }
-{
-    let nodes = [OTHER, TEST, PLAIN, LAST];
-    let arcs = [
-        Arc { tail: 0, head: 1 },
-        Arc { tail: 1, head: 2 },
-        Arc { tail: 1, head: 3 },
-        Arc { tail: 2, head: 3 },
-    ];
-    graph_of(alloc, &nodes, &arcs)
-}
-
 #[test]
 fn asks_a_graph(rt: HostRuntime) -> Result<(), Fail> {
-    let graph = one_arm(rt.alloc())?;
-    let both = two_paths(rt.alloc(), &graph, 1, &[false, false, true, true])?;
+    let graph = graph_of(rt.alloc(), "IF x = 1;SKIP;ENDIF;")?;
+    assert!(rt; graph.nodes.len() == 5);
+    let both = two_paths(rt.alloc(), &graph, 1, &[false, false, true, true, false])?;
     assert!(rt; is_pair(&both, &[1, 2], &[1, 3]));
-    let end = two_paths(rt.alloc(), &graph, 1, &[false, false, false, true])?;
+    let end = two_paths(rt.alloc(), &graph, 1, &[false, false, false, true, true])?;
     assert!(rt; end.is_none());
     Ok(())
 }

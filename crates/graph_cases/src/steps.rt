@@ -1,36 +1,16 @@
 //! Steps and runs of the line machine.
-ghost use Rattle.std.specs.Prelude.{◌≤ℤ◌, IsTrue, slice_get, Some};
+ghost use Rattle.std.specs.Prelude.{IsTrue};
 ghost use Rattle.il_core.specs.Procedure.{instruction_of};
 ghost use Rattle.il_core.specs.LineGraph.{heads_of};
-ghost use Rattle.il_core.specs.Run.{IsInRange};
 ghost use Rattle.line_machine.specs.Cut.{IsMarked};
 ghost use Rattle.line_machine.specs.Arcs.{LeadOn, LinesLeadOn};
 
-use crate::sample::procedure;
-use il_core::{CheckedProc, Halt, Line, Name, Next, Place, Stop};
+use crate::texts::accepted;
+use case_values::is_in_range;
+use il_core::{CheckedProc, Halt, Line, Next, Stop};
 use line_machine::{run_to_cut, step};
 use std::process::Abort;
 use std::test::Fail;
-
-fn is_value_of(place: &Place, value: i64) -> bool
-    ensures { IsTrue result → (place.now.least ≤ℤ value) × (value ≤ℤ place.now.greatest) }
-{
-    place.least <= value && value <= place.greatest
-}
-
-fn is_in_range(places: &[Place], vals: &[i64]) -> bool
-    ensures { IsTrue result → IsInRange places.now vals.now }
-{
-    if vals.len() != places.len() {
-        return false;
-    }
-    for (index, place) in places.iter().enumerate() {
-        if !is_value_of(place, vals[index]) {
-            return false;
-        }
-    }
-    true
-}
 
 fn is_marked(cuts: &[bool], line: usize) -> bool
     ensures { IsTrue result → IsMarked cuts.now line }
@@ -68,9 +48,22 @@ fn lines_lead_on(cuts: &[bool], lines: &[Line]) -> bool
     true
 }
 
+/// A procedure with a line of each kind but EXIT and RETURN, whose conditions all ask whether a DIV b is c. Behind the
+/// five variables stand the OLD copies of the last three.
+pub const SAMPLE: &[u8] =
+    b"TITLE t;PROC p;IN a : -9 .. 9;IN b : -9 .. 9;INOUT c : -4 .. 4;INOUT f : BOOL;INOUT w : WRAP -128 .. 127;\
+PRE a DIV b = c;POST a DIV b = c;c := a DIV b;c := a MOD b;w := w * 2;\
+f := f AND a DIV b = c;f := f OR a DIV b = c;f := a DIV b = c AND f;f := a DIV b = c OR f;\
+LOOP;EXIT WHEN a DIV b = c;IF a DIV b = c;ELSE;GOTO out;ENDIF;ENDLOOP;LABEL out;ASSERT a DIV b = c;ENDPROC;FINISH;";
+
+/// The values of the variables, with 0 for each OLD copy.
+fn with_copies(vals: [i64; 5]) -> [i64; 8] {
+    [vals[0], vals[1], vals[2], vals[3], vals[4], 0, 0, 0]
+}
+
 /// The step from these values, and the values after it.
-fn stepped(rt: &impl Abort, proc: &CheckedProc, line: usize, vals: [i64; 5]) -> (Next, [i64; 5]) {
-    let mut vals = vals;
+fn stepped(rt: &impl Abort, proc: &CheckedProc, line: usize, vals: [i64; 5]) -> (Next, [i64; 8]) {
+    let mut vals = with_copies(vals);
     assert!(rt; line < proc.lines().len());
     assert!(rt; is_in_range(proc.places().as_slice(), &vals));
     let next = step(proc, line, &mut vals);
@@ -84,8 +77,8 @@ fn run(
     cuts: &[bool],
     line: usize,
     vals: [i64; 5],
-) -> (Stop, [i64; 5]) {
-    let mut vals = vals;
+) -> (Stop, [i64; 8]) {
+    let mut vals = with_copies(vals);
     assert!(rt; line < proc.lines().len());
     assert!(rt; cuts.len() == proc.lines().len());
     assert!(rt; lines_lead_on(cuts, proc.lines().as_slice()));
@@ -96,8 +89,8 @@ fn run(
 
 #[test]
 fn steps(rt: HostRuntime) -> Result<(), Fail> {
-    let name = Name::new(b"x").ok_or("no name")?;
-    let proc = procedure(rt.alloc(), name)?;
+    let checked = accepted(rt.alloc(), SAMPLE)?;
+    let proc = checked.procs().get(0).ok_or("no procedure")?;
     // A line and values, the next line, and the values there.
     let cases = [
         (0, [4, 2, 2, 0, 0], 1, [4, 2, 2, 0, 0]),
@@ -125,17 +118,21 @@ fn steps(rt: HostRuntime) -> Result<(), Fail> {
         (6, [4, 2, 2, 0, 0], 7, [4, 2, 2, 0, 0]),
         (7, [4, 2, 1, 1, 0], 8, [4, 2, 1, 1, 0]),
         (8, [0, 0, 0, 0, 0], 9, [0, 0, 0, 0, 0]),
-        (9, [4, 2, 2, 0, 0], 12, [4, 2, 2, 0, 0]),
+        (9, [4, 2, 2, 0, 0], 15, [4, 2, 2, 0, 0]),
         (9, [4, 2, 1, 0, 0], 10, [4, 2, 1, 0, 0]),
         (10, [4, 2, 2, 0, 0], 11, [4, 2, 2, 0, 0]),
         (10, [4, 2, 1, 0, 0], 12, [4, 2, 1, 0, 0]),
-        (11, [0, 0, 0, 0, 0], 8, [0, 0, 0, 0, 0]),
-        (12, [4, 2, 2, 0, 0], 13, [4, 2, 2, 0, 0]),
+        (11, [0, 0, 0, 0, 0], 13, [0, 0, 0, 0, 0]),
+        (12, [0, 0, 0, 0, 0], 15, [0, 0, 0, 0, 0]),
+        (13, [0, 0, 0, 0, 0], 14, [0, 0, 0, 0, 0]),
+        (14, [0, 0, 0, 0, 0], 8, [0, 0, 0, 0, 0]),
+        (15, [0, 0, 0, 0, 0], 16, [0, 0, 0, 0, 0]),
+        (16, [4, 2, 2, 0, 0], 17, [4, 2, 2, 0, 0]),
     ];
     for (line, vals, next, wanted) in cases {
-        let stepped = stepped(&rt, &proc, line, vals);
+        let stepped = stepped(&rt, proc, line, vals);
         assert!(rt;
-            stepped == (Next::At(next), wanted),
+            stepped == (Next::At(next), with_copies(wanted)),
             "line {line} at {vals:?}"
         );
     }
@@ -144,8 +141,8 @@ fn steps(rt: HostRuntime) -> Result<(), Fail> {
 
 #[test]
 fn halts(rt: HostRuntime) -> Result<(), Fail> {
-    let name = Name::new(b"x").ok_or("no name")?;
-    let proc = procedure(rt.alloc(), name)?;
+    let checked = accepted(rt.alloc(), SAMPLE)?;
+    let proc = checked.procs().get(0).ok_or("no procedure")?;
     // A line, values that stay as they are, and the halt.
     let cases = [
         (0, [1, 0, 1, 0, 0], Halt::DivZero(0)),
@@ -157,19 +154,19 @@ fn halts(rt: HostRuntime) -> Result<(), Fail> {
         (7, [1, 0, 1, 1, 0], Halt::DivZero(7)),
         (9, [1, 0, 1, 0, 0], Halt::DivZero(9)),
         (10, [1, 0, 1, 0, 0], Halt::DivZero(10)),
-        (12, [1, 0, 1, 0, 0], Halt::DivZero(12)),
-        (13, [1, 0, 1, 0, 0], Halt::DivZero(13)),
+        (16, [1, 0, 1, 0, 0], Halt::DivZero(16)),
+        (17, [1, 0, 1, 0, 0], Halt::DivZero(17)),
         (0, [4, 2, 1, 0, 0], Halt::Outside),
         (1, [5, 1, 0, 0, 0], Halt::Range(1)),
         (1, [-9, 2, 0, 0, 0], Halt::Range(1)),
-        (12, [4, 2, 1, 0, 0], Halt::FailedAssert(12)),
-        (13, [4, 2, 2, 0, 0], Halt::End),
-        (13, [4, 2, 1, 0, 0], Halt::FailedPost),
+        (16, [4, 2, 1, 0, 0], Halt::FailedAssert(16)),
+        (17, [4, 2, 2, 0, 0], Halt::End),
+        (17, [4, 2, 1, 0, 0], Halt::FailedPost),
     ];
     for (line, vals, halt) in cases {
-        let stepped = stepped(&rt, &proc, line, vals);
+        let stepped = stepped(&rt, proc, line, vals);
         assert!(rt;
-            stepped == (Next::Halted(halt), vals),
+            stepped == (Next::Halted(halt), with_copies(vals)),
             "line {line} at {vals:?}"
         );
     }
@@ -178,9 +175,9 @@ fn halts(rt: HostRuntime) -> Result<(), Fail> {
 
 #[test]
 fn runs(rt: HostRuntime) -> Result<(), Fail> {
-    let name = Name::new(b"x").ok_or("no name")?;
-    let proc = procedure(rt.alloc(), name)?;
-    let mut cuts = [false; 14];
+    let checked = accepted(rt.alloc(), SAMPLE)?;
+    let proc = checked.procs().get(0).ok_or("no procedure")?;
+    let mut cuts = [false; 18];
     cuts[8] = true;
     let cases = [
         (0, [4, 2, 2, 0, 100], Stop::Head(8), [4, 2, 0, 0, -56]),
@@ -194,26 +191,29 @@ fn runs(rt: HostRuntime) -> Result<(), Fail> {
         (
             8,
             [4, 2, 1, 0, 1],
-            Stop::Halted(Halt::FailedAssert(12)),
+            Stop::Halted(Halt::FailedAssert(16)),
             [4, 2, 1, 0, 1],
         ),
         (10, [4, 2, 2, 0, 1], Stop::Head(8), [4, 2, 2, 0, 1]),
         (
-            12,
+            16,
             [4, 2, 2, 0, 1],
             Stop::Halted(Halt::End),
             [4, 2, 2, 0, 1],
         ),
         (
-            13,
+            17,
             [4, 2, 1, 0, 1],
             Stop::Halted(Halt::FailedPost),
             [4, 2, 1, 0, 1],
         ),
     ];
     for (line, vals, stop, wanted) in cases {
-        let end = run(&rt, &proc, &cuts, line, vals);
-        assert!(rt; end == (stop, wanted), "line {line} at {vals:?}");
+        let end = run(&rt, proc, &cuts, line, vals);
+        assert!(rt;
+            end == (stop, with_copies(wanted)),
+            "line {line} at {vals:?}"
+        );
     }
     Ok(())
 }

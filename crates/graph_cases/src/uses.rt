@@ -1,16 +1,10 @@
-//! The use of the variables of graphs that are written out.
-use crate::drawn::{PLAIN, graph_of, order_of};
+//! The use of variables.
+use crate::texts::{order_of, written};
 use data_use::{UseRow, data_use};
-use flow_graph::{Arc, Node, NodeKind};
-use il_core::{Mode, Name, Place};
+use flow_graph::build;
+use il_core::{CheckedProc, List};
+use std::alloc::Global;
 use std::test::Fail;
-
-const ARCS: [Arc; 4] = [
-    Arc { tail: 0, head: 1 },
-    Arc { tail: 1, head: 2 },
-    Arc { tail: 2, head: 3 },
-    Arc { tail: 3, head: 4 },
-];
 
 /// The row of a place of which no fact holds.
 fn unused(place: usize) -> UseRow {
@@ -25,67 +19,23 @@ fn unused(place: usize) -> UseRow {
     }
 }
 
+/// The rows of a procedure.
+fn rows_of(alloc: Global, proc: &CheckedProc) -> Result<List<UseRow>, Fail> {
+    let graph = build(alloc, proc)?;
+    let order = order_of(alloc, &graph)?;
+    Ok(data_use(alloc, &graph, proc.places().as_slice(), order.as_slice())?)
+}
+
+/// The rows of the procedure with these declarations and this body.
+fn rows_in(alloc: Global, declared: &str, body: &str) -> Result<List<UseRow>, Fail> {
+    let checked = written(alloc, declared, body)?;
+    rows_of(alloc, checked.procs().get(0).ok_or("no procedure")?)
+}
+
 #[test]
 fn copies_read_and_write_each_place_in_turn(rt: HostRuntime) -> Result<(), Fail> {
-    let nodes = [
-        PLAIN,
-        Node {
-            kind: NodeKind::Assign,
-            reads: 1,
-            writes: Some(3),
-            last_reads: 0,
-        },
-        Node {
-            kind: NodeKind::Assign,
-            reads: 2,
-            writes: Some(2),
-            last_reads: 0,
-        },
-        Node {
-            kind: NodeKind::Assign,
-            reads: 8,
-            writes: Some(1),
-            last_reads: 0,
-        },
-        Node {
-            kind: NodeKind::Last,
-            last_reads: 6,
-            ..PLAIN
-        },
-    ];
-    let graph = graph_of(rt.alloc(), &nodes, &ARCS)?;
-    let name = Name::new(b"v").ok_or("no name")?;
-    let place = Place {
-        name,
-        mode: Mode::Input,
-        old: false,
-        flag: false,
-        wrap: false,
-        least: 0,
-        greatest: 9,
-    };
-    let places = [
-        place,
-        Place {
-            mode: Mode::InOut,
-            ..place
-        },
-        Place {
-            mode: Mode::Output,
-            ..place
-        },
-        Place {
-            mode: Mode::Local,
-            ..place
-        },
-        Place {
-            mode: Mode::InOut,
-            old: true,
-            ..place
-        },
-    ];
-    let order = order_of(rt.alloc(), &graph)?;
-    let rows = data_use(rt.alloc(), &graph, &places, order.as_slice())?;
+    let declared = "IN a : 0 .. 9;INOUT b : 0 .. 9;OUT c : 0 .. 9;LOCAL d : 0 .. 9;";
+    let rows = rows_in(rt.alloc(), declared, "d := a;c := b;b := d;")?;
     let wanted = [
         UseRow {
             read_first: true,
@@ -106,31 +56,7 @@ fn copies_read_and_write_each_place_in_turn(rt: HostRuntime) -> Result<(), Fail>
 
 #[test]
 fn an_endless_loop_uses_nothing(rt: HostRuntime) -> Result<(), Fail> {
-    let nodes = [
-        PLAIN,
-        PLAIN,
-        PLAIN,
-        PLAIN,
-        Node {
-            kind: NodeKind::Last,
-            last_reads: 1,
-            ..PLAIN
-        },
-    ];
-    let arcs = [ARCS[0], ARCS[1], ARCS[2], Arc { tail: 3, head: 1 }];
-    let graph = graph_of(rt.alloc(), &nodes, &arcs)?;
-    let name = Name::new(b"y").ok_or("no name")?;
-    let places = [Place {
-        name,
-        mode: Mode::Output,
-        old: false,
-        flag: false,
-        wrap: false,
-        least: 0,
-        greatest: 1,
-    }];
-    let order = order_of(rt.alloc(), &graph)?;
-    let rows = data_use(rt.alloc(), &graph, &places, order.as_slice())?;
+    let rows = rows_in(rt.alloc(), "OUT y : 0 .. 1;", "LOOP;SKIP;ENDLOOP;")?;
     let wanted = [UseRow {
         never_read: true,
         never_written: true,
@@ -142,29 +68,7 @@ fn an_endless_loop_uses_nothing(rt: HostRuntime) -> Result<(), Fail> {
 
 #[test]
 fn a_second_write_overwrites(rt: HostRuntime) -> Result<(), Fail> {
-    let write = Node {
-        kind: NodeKind::Assign,
-        writes: Some(0),
-        ..PLAIN
-    };
-    let end = Node {
-        kind: NodeKind::Last,
-        ..PLAIN
-    };
-    let nodes = [PLAIN, write, write, PLAIN, end];
-    let graph = graph_of(rt.alloc(), &nodes, &ARCS)?;
-    let name = Name::new(b"x").ok_or("no name")?;
-    let places = [Place {
-        name,
-        mode: Mode::Local,
-        old: false,
-        flag: false,
-        wrap: false,
-        least: 0,
-        greatest: 9,
-    }];
-    let order = order_of(rt.alloc(), &graph)?;
-    let rows = data_use(rt.alloc(), &graph, &places, order.as_slice())?;
+    let rows = rows_in(rt.alloc(), "LOCAL x : 0 .. 9;", "x := 1;x := 2;SKIP;")?;
     let wanted = [UseRow {
         overwritten: true,
         last_write: true,

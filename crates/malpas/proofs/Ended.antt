@@ -5,9 +5,10 @@ use Rattle.std.proofs.KnownBytes.{Appends-trans}
 use Rattle.std.specs.Bool.{then_some}
 use Rattle.il_core.specs.Text.{Text}
 use Rattle.il_edge.specs.Known.{Appends, AppendsPrefix, IsSettled}
-use Rattle.report_text.specs.declared.report.ProcReport.{ProcReport}
-use Rattle.report_text.specs.declared.report.Report.{Report}
-use Rattle.report_text.specs.Report.{head_text, end_text, parts_text, status_of, report_text}
+use Rattle.report.specs.declared.report.ProcReport.{ProcReport}
+use Rattle.report.specs.declared.report.Report.{Report}
+use Rattle.report_text.specs.Report.{head_text, end_text, parts_text, report_text}
+use Rattle.report.specs.Status.{status_of}
 use Rattle.report_text.proofs.Written.{prefix_behind, prefix_more}
 use Rattle.malpas.specs.Answer.{Sends}
 use Rattle.malpas.specs.Parts.{all, before_last, text_due, IsSettledBehind, AreSent, AreCut, Reports}

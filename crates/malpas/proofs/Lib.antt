@@ -1,4 +1,3 @@
-pub mod Told
 pub mod Sent
 pub mod Ended
 pub mod Outcomes

@@ -8,11 +8,12 @@ use Rattle.std.proofs.lemmas.Option.{slice_get_cases, slice_get_within, get_or_f
 use Rattle.il_core.specs.Text.{Text}
 use Rattle.il_edge.specs.Faults.{Rose}
 use Rattle.il_edge.specs.Known.{SameTold, Appends, AppendsPrefix, IsSettled}
-use Rattle.report_text.specs.declared.report.ProcReport.{ProcReport}
-use Rattle.report_text.specs.declared.report.Report.{Report}
+use Rattle.report.specs.declared.report.ProcReport.{ProcReport}
+use Rattle.report.specs.declared.report.Report.{Report}
 use Rattle.report_text.specs.Report.{head_text, part_text, parts_text}
 use Rattle.report_text.proofs.Written.{prefix_behind}
-use Rattle.malpas.specs.Parts.{all, before_last, last_alone, text_with, first_text, next_text, SettledPast, KeepsParts, IsSettledBehind, AreSent, AreCut, IsTold}
+use Rattle.report.specs.Headline.{IsTold}
+use Rattle.malpas.specs.Parts.{all, before_last, last_alone, text_with, first_text, next_text, SettledPast, KeepsParts, IsSettledBehind, AreSent, AreCut}
 
 -- Two reports with the same title and profile have the same head.
 same_head : (a b : Report) → a.title ≡ b.title → a.profile ≡ b.profile → head_text a ≡ head_text b

@@ -5,7 +5,7 @@ use Rattle.il_core.specs.declared.refusal.Refusal.{Refusal}
 use Rattle.il_core.specs.declared.refusal.Code.TheVariants as code
 use Rattle.il_edge.specs.Faults.{Rose}
 use Rattle.il_edge.specs.Known.{IsAtEnd, TookMore, Appends, AppendsPrefix, IsSettled}
-use Rattle.malpas_suite.specs.Acceptance.{Accepts, HasRefusal}
+use Rattle.acceptance.specs.Acceptance.{Accepts, HasRefusal}
 use Rattle.malpas.specs.declared.answer.Judged.{Judged}
 use Rattle.malpas.specs.declared.answer.Judged.TheVariants as judged
 

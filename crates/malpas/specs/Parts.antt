@@ -4,11 +4,11 @@ use Rattle.std.specs.Prelude.{◌≡◌, ℕ, ◌-◌, ◌<◌, ◌≤◌, ◌==
 use Rattle.il_core.specs.Text.{Text}
 use Rattle.il_edge.specs.Faults.{Rose}
 use Rattle.il_edge.specs.Known.{Appends, AppendsPrefix, IsSettled}
-use Rattle.report_text.specs.declared.report.ProcReport.{ProcReport}
-use Rattle.report_text.specs.declared.report.Report.{Report}
-use Rattle.report_text.specs.declared.report.Selection.{Selection}
-use Rattle.report_text.specs.Report.{head_text, end_text, status_of, parts_text, report_text}
-use Rattle.report_text.specs.Reported.{IsReportOfFront, TellOfRuns}
+use Rattle.report.specs.declared.report.ProcReport.{ProcReport}
+use Rattle.report.specs.declared.report.Report.{Report}
+use Rattle.report_text.specs.declared.selection.Selection.{Selection}
+use Rattle.report_text.specs.Report.{head_text, end_text, parts_text, report_text}
+use Rattle.report.specs.Status.{status_of}
 use Rattle.malpas.specs.declared.reporting.PartsEnd.{PartsEnd}
 use Rattle.malpas.specs.declared.reporting.PartsEnd.TheVariants as end
 
@@ -38,10 +38,6 @@ next_text report = first_text report ++ parts_text all (last_alone report.procs)
 -- the text that is due to a report of a text's first procedures: the line with the status only where it has all of them
 abbrev pub text_due : Text → Report → List ℕ
 text_due t report = head_text report ++ parts_text all report.procs ++ (if length report.procs == length t.procs then end_text (status_of report) else [])
-
--- A report is that of the first procedures of a text, and tells of their runs.
-abbrev pub IsTold : Text → Report → Type 0
-IsTold t report = IsReportOfFront t report × TellOfRuns t.procs report.procs
 
 -- What is held has grown by `bytes`, and maybe by more behind them.
 abbrev pub AppendsPast : Option (List ℕ) → Option (List ℕ) → List ℕ → Type 0

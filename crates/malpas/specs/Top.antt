@@ -1,19 +1,15 @@
 -- What an outcome says: its status is that of what it holds, its text belongs to what it holds, and what it holds belongs to the text that was read.
-use Rattle.std.specs.Prelude.{◌≡◌, ℕ, ◌<◌, ◌≤◌, ◌⊎◌, List, length, slice_get, Option, None, Some, IfSome}
-use Rattle.il_core.specs.LineGraph.{IsIn}
-use Rattle.il_core.specs.Procedure.{Procedure}
-use Rattle.il_core.specs.Text.{TextProcedure, Text}
+use Rattle.std.specs.Prelude.{◌≡◌, ℕ, ◌<◌, ◌≤◌, ◌⊎◌, List, length, Option, None, Some, IfSome}
+use Rattle.il_core.specs.Text.{Text}
 use Rattle.il_core.specs.declared.refusal.Refusal.{Refusal}
 use Rattle.il_edge.specs.Known.{IsAtEnd, TookMore, AppendsPrefix}
-use Rattle.info_flow.specs.declared.row.FlowRow.{FlowRow}
-use Rattle.report_text.specs.declared.report.Analyses.{Analyses}
-use Rattle.report_text.specs.declared.report.ProcReport.{ProcReport}
-use Rattle.report_text.specs.declared.report.Report.{Report}
-use Rattle.report_text.specs.Report.{report_text, status_of}
-use Rattle.report_text.specs.Reported.{IsReportOfFront, HasEqualValues}
-use Rattle.report_text.specs.Straight.{RowHolds}
+use Rattle.report.specs.declared.report.Report.{Report}
+use Rattle.report.specs.Headline.{TablesHaveOneRowPerInput, CleanProceduresHaveNoBadRun, NoProcedureHasABadRun, EndingRunsHaveEqualValues}
+use Rattle.report.specs.Reported.{IsReportOfFront}
+use Rattle.report.specs.Status.{status_of}
+use Rattle.report_text.specs.Report.{report_text}
 use Rattle.report_text.specs.Refusal.{refusal_text, words_text}
-use Rattle.malpas_suite.specs.Acceptance.{Accepts, HasRefusal}
+use Rattle.acceptance.specs.Acceptance.{Accepts, HasRefusal}
 use Rattle.malpas.specs.Answer.{text_limit, too_long}
 use Rattle.malpas.specs.Parts.{all, text_due}
 use Rattle.malpas.specs.declared.top.Outcome.{Outcome}
@@ -55,32 +51,31 @@ HasAll report t = length report.procs ≡ length t.procs
 abbrev pub HasFewer : Report → Text → Type 0
 HasFewer report t = length report.procs < length t.procs
 
--- The report of the first procedures, at least one, of all bytes that a source had left, of which none is left now.
-abbrev pub IsReported : Option (List ℕ) → Option (List ℕ) → Report → Type 0
-IsReported old new report = IsAtEnd new × OfText old (λ t. IsReportOfFront t report × (0 < length report.procs))
+-- What a report that was written for a text says: it is that of the text's first procedures, at least one, of all of them where it was written
+-- whole, and not of all where memory ran out. Each table of a region within its size has exactly one row for each input of the region, and
+-- stepping the lines from the input gives the row's stop and values. Where a reducible procedure has every table within its size and every
+-- threat refuted, no run from the precondition faults, fails an assertion or ends outside the postcondition; with status 0 this is so of each
+-- procedure of the text. Ending runs that agree on a variable's reported sources give it equal values.
+pub record Tells (t : Text) (report : Report) (status : ℕ) : Type 0 where
+  pub reported : IsReportOfFront t report
+  pub some : 0 < length report.procs
+  pub whole : status ≤ 1 → HasAll report t
+  pub fewer : status ≡ 5 → HasFewer report t
+  pub one_row : TablesHaveOneRowPerInput t report
+  pub safe : CleanProceduresHaveNoBadRun t report
+  pub clean : status ≡ 0 → NoProcedureHasABadRun t
+  pub equal_values : EndingRunsHaveEqualValues t report
 
--- For each procedure of a text and its report this holds.
-abbrev pub OfEach : (Procedure → Analyses → Type 0) → Report → Text → Type 0
-OfEach Holds report t = (k : ℕ) (p : TextProcedure) (r : ProcReport) → slice_get t.procs k ≡ Some p → slice_get report.procs k ≡ Some r → IfSome r.analyses (Holds p.body)
-
--- Two runs of a procedure that end, and whose initial states agree on the sources of a variable, end with equal values of it.
-abbrev pub HaveEqualValues : Report → Text → Type 0
-HaveEqualValues report t = OfEach (λ p a. (row : FlowRow) → IsIn a.flows row → HasEqualValues p row) report t
-
--- Each run of a straight procedure ends, and each place then has the first value of the place that the row gives for it.
-abbrev pub HaveTables : Report → Text → Type 0
-HaveTables report t = OfEach (λ p a. IfSome a.row (RowHolds p)) report t
+-- The report says so of one text, that of all bytes that a source had left, of which none is left now; and where the sink failed, what it holds
+-- has grown by a prefix of what is due to that text and the report.
+abbrev pub IsReported : Option (List ℕ) → Option (List ℕ) → Option (List ℕ) → Option (List ℕ) → ℕ → Report → Type 0
+IsReported left_old left_new held_old held_new status report =
+    IsAtEnd left_new × OfText left_old (λ t. Tells t report status × (status ≡ 4 → AppendsPrefix held_old held_new (text_due t report)))
 
 -- The refusal of the bytes that were taken: there are too many, or they are all that there were and have this first refusal.
 abbrev pub IsRefused : Option (List ℕ) → Option (List ℕ) → Refusal → Type 0
 IsRefused old new refusal =
     ((refusal ≡ too_long) × TookMore text_limit old new) ⊎ (IsAtEnd new × IfSome old (λ text. (length text ≤ text_limit) × HasRefusal text refusal))
-
--- What stands in a sink that failed: a prefix of what was due.
-abbrev pub IsPart : Option (List ℕ) → Option (List ℕ) → Option (List ℕ) → Option Refusal → Option Report → Type 0
-IsPart bytes old new None None = AppendsPrefix old new words_text
-IsPart bytes old new None (Some report) = OfText bytes (λ t. AppendsPrefix old new (text_due t report))
-IsPart bytes old new (Some refusal) report = AppendsPrefix old new (refusal_text refusal)
 
 -- The refusal or the whole report that belongs to a text, with its status.
 abbrev pub BelongsTo : List ℕ → Option Refusal → Option Report → ℕ → Type 0

@@ -4,9 +4,9 @@ ghost use Rattle.report_text.specs.Refusal.{refusal_text, words_text};
 ghost use Rattle.malpas.specs.Answer.{text_limit, too_long, JudgesText, Judges, Settles, Sends};
 
 use crate::top::Outcome;
+use acceptance::accept;
 use il_core::{CheckedText, Code, Refusal, TextEnd};
 use il_edge::{Failed, ReadEnd, Sink, Source, read_all};
-use malpas_suite::accept;
 use report_text::{put_refusal, put_words};
 use std::alloc::Global;
 

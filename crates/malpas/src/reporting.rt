@@ -3,16 +3,19 @@ ghost use Rattle.il_core.specs.Text.{text_of};
 ghost use Rattle.il_edge.specs.Faults.{HasCause};
 ghost use Rattle.il_edge.specs.Known.{SameTold};
 ghost use Rattle.report_text.specs.Pieces.{Writes};
-ghost use Rattle.report_text.specs.Report.{end_text, status_of};
+ghost use Rattle.report_text.specs.Report.{end_text};
+ghost use Rattle.report.specs.Headline.{IsTold};
+ghost use Rattle.report.specs.Status.{status_of};
 ghost use Rattle.malpas.specs.Answer.{Sends};
-ghost use Rattle.malpas.specs.Parts.{first_text, next_text, SendsNext, SendsParts, Reports, IsTold};
+ghost use Rattle.malpas.specs.Parts.{first_text, next_text, SendsNext, SendsParts, Reports};
 
 use crate::answer::settle;
 use crate::top::Outcome;
 use il_core::{CheckedText, List, NoMemory};
 use il_edge::{Failed, Sink};
 use malpas_suite::analyse_proc;
-use report_text::{Report, Selection, put_end, put_head, put_part, status_of};
+use report::{Report, status_of};
+use report_text::{Selection, put_end, put_head, put_part};
 use std::alloc::Global;
 
 /// Each section is written.

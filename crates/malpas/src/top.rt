@@ -1,24 +1,24 @@
 ghost use Rattle.std.specs.Prelude.{◌≡◌, ◌≢◌, ◌<◌, ◌≤◌, ◌⊎◌, ◌↔◌, ◌++◌, None, length, IfSome};
 ghost use Rattle.il_edge.specs.Faults.{Rose};
-ghost use Rattle.il_edge.specs.Known.{SameTold, IsAtEnd, Took, Appends, IsSettled};
+ghost use Rattle.il_edge.specs.Known.{SameTold, IsAtEnd, Took, Appends, AppendsPrefix, IsSettled};
 ghost use Rattle.report_text.specs.Report.{head_text, parts_text};
 ghost use Rattle.malpas.specs.Answer.{too_long};
 ghost use Rattle.malpas.specs.Parts.{all, before_last, KeepsParts};
-ghost use Rattle.malpas.specs.Top.{HasStatus, outcome_text, IsWritten, IsSilent, IsForWords, OfText, HasAll, HasFewer, IsReported, HaveEqualValues, HaveTables, IsRefused, IsPart, BelongsTo};
+ghost use Rattle.malpas.specs.Top.{HasStatus, outcome_text, IsWritten, IsSilent, IsForWords, IsReported, IsRefused, BelongsTo};
 
 use crate::answer::{Judged, answer_words, judge, refuse, too_long_refusal};
 use crate::reporting::report_on;
 use il_core::Refusal;
 use il_edge::{Sink, Source};
-use report_text::Report;
+use report::Report;
 use std::alloc::Global;
 
 /// What the program did.
 #[derive(Drop)]
 pub struct Outcome {
-    /// 0 where the report was written and each procedure is reducible, 1 where it was written and some procedure is
-    /// not, 2 where the text was refused, 3 where the source failed, 4 where the sink failed, 5 where memory ran out,
-    /// 6 where the words are not understood.
+    /// 0 where the report was written and is clean: every procedure is reducible, no table is past its size and every
+    /// threat is refuted. 1 where it was written and is not clean, 2 where the text was refused, 3 where the source
+    /// failed, 4 where the sink failed, 5 where memory ran out, 6 where the words are not understood.
     pub status: u8,
     /// The refusal, with status 2, and with 4 where the text was refused.
     pub refusal: Option<Refusal>,
@@ -55,18 +55,14 @@ pub fn malpas<S: Source, K: Sink>(
     ensures taken { Took (S.left source.old) (S.left source.new) }
     ensures input { IfSome result.refusal (λ refusal. refusal ≢ too_long → IsAtEnd (S.left source.new)) }
     ensures refusal { IfSome result.refusal (IsRefused (S.left source.old) (S.left source.new)) }
-    ensures report { IfSome result.report (IsReported (S.left source.old) (S.left source.new)) }
-    ensures equal_values { IfSome result.report (λ report. OfText (S.left source.old) (HaveEqualValues report)) }
-    ensures table { IfSome result.report (λ report. OfText (S.left source.old) (HaveTables report)) }
-    ensures whole { result.status ≤ 1 → IfSome result.report (λ report. OfText (S.left source.old) (HasAll report)) }
-    ensures memory { result.status ≡ 5 → IfSome result.report (λ report. OfText (S.left source.old) (HasFewer report)) }
+    ensures headline { IfSome result.report (IsReported (S.left source.old) (S.left source.new) (K.held sink.old) (K.held sink.new) result.status) }
     ensures status { HasStatus result.refusal result.report result.status }
     ensures written { IsWritten result.status → Appends (K.held sink.old) (K.held sink.new) (outcome_text result.refusal result.report) }
     ensures settled { IsWritten result.status → IsSettled (K.held sink.new) (K.settled sink.new) }
     ensures silent { IsSilent result.report result.status → sink.new ≡ sink.old }
     ensures short { result.status ≡ 5 → IfSome result.report (λ report.
         Appends (K.held sink.old) (K.held sink.new) (head_text report ++ parts_text all report.procs) × IsSettled (K.held sink.new) (K.settled sink.new)) }
-    ensures part { result.status ≡ 4 → IsPart (S.left source.old) (K.held sink.old) (K.held sink.new) result.refusal result.report }
+    ensures part { result.status ≡ 4 → result.report ≡ None → AppendsPrefix (K.held sink.old) (K.held sink.new) (outcome_text result.refusal None) }
     ensures kept { result.status ≡ 4 → IfSome result.report (λ report.
         KeepsParts (K.held sink.old) (K.held sink.new) (K.settled sink.new) report (before_last report.procs)) }
     ensures unsettled { result.status ≡ 4 → result.report ≡ None → K.settled sink.new ≡ K.settled sink.old }

@@ -1,4 +1,2 @@
-pub mod Copying
-pub mod Stepping
-pub mod Rows
-pub mod Accepting
+mod Regions
+mod Safe

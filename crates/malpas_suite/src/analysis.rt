@@ -1,63 +1,78 @@
 //! The report of a procedure.
-ghost use Rattle.std.specs.Prelude.{◌≡◌, IfOk, Some};
+ghost use Rattle.std.specs.Prelude.{◌≡◌, IfOk, IfSome};
 ghost use Rattle.il_core.specs.Checked.{procedure_of};
 ghost use Rattle.il_core.specs.Text.{text_procedure};
 ghost use Rattle.flow_graph.specs.Graph.{graph_of, IsWellFormed, HasPlaces};
-ghost use Rattle.flow_graph.specs.Reached.{IsInnerOrder};
-ghost use Rattle.interval_reduce.specs.Derivation.{Reduces};
-ghost use Rattle.report_text.specs.Reported.{AreAnalyses, AreAnalysesBy, IsProcReportOf, TellsOfRuns};
+ghost use Rattle.control_flow.specs.Control.{IsControlOf};
+ghost use Rattle.control_flow.specs.declared.control.Shape.TheVariants.{Reducible};
+ghost use Rattle.interval_reduce.specs.Derivation.{IsDerivationOf, Reduces};
+ghost use Rattle.report.specs.Reported.{AreAnalyses, AreAnalysesBy, IsProcReportOf};
+ghost use Rattle.report.specs.Headline.{TellsOfRuns};
 
-use crate::straight::straight_row;
-use control_flow::{Shape, control_of};
+use crate::tables::tables_of;
+use compliance::threats;
+use control_flow::{Control, Shape, control_of};
 use data_use::data_use;
 use flow_graph::{FlowGraph, build};
 use il_core::{CheckedProc, List, NoMemory};
 use info_flow::flows;
 use interval_reduce::{Derivation, derive};
 use path_expr::paths;
-use report_text::{Analyses, ProcReport};
+use report::{Analyses, ProcReport};
 use std::alloc::Global;
+use test_graph::lower;
 
-/// The analyses of a reducible procedure, from its graph and the order in which its lines are taken into intervals.
+/// The analyses of a reducible procedure, from its graph, its control structure and its derivation. The graph of its
+/// tests is given back at the end.
 fn analyses_of(
     alloc: Global,
     proc: &CheckedProc,
     graph: &FlowGraph,
-    order: &[usize],
+    control: &Control,
+    derivation: &Derivation,
 ) -> Result<Analyses, NoMemory>
     requires graph { graph.now ≡ graph_of (procedure_of proc.now) }
     requires formed { IsWellFormed graph.now }
     requires placed { HasPlaces graph.now proc.now.places }
-    requires order { IsInnerOrder graph.now order.now }
-    ensures analyses { IfOk result (AreAnalyses (procedure_of proc.now) order.now) }
-    ensures runs { IfOk result (λ a. TellsOfRuns (procedure_of proc.now) (Some a)) }
+    requires control { IsControlOf (graph_of (procedure_of proc.now)) control.now }
+    requires shape { control.now.shape ≡ Reducible }
+    requires derivation { IsDerivationOf (graph_of (procedure_of proc.now)) control.now.shape derivation.now }
+    requires reduces { Reduces graph.now control.now.shape derivation.now }
+    ensures analyses { IfOk result (AreAnalyses (procedure_of proc.now) control.now.loops derivation.now.order) }
+    ensures runs { IfOk result (TellsOfRuns (procedure_of proc.now) control.now.loops) }
 {
     let places = proc.places().as_slice();
+    let order = derivation.order.as_slice();
+    let tests = lower(alloc, proc)?;
     Ok(Analyses {
         paths: paths(alloc, graph, order)?,
         usage: data_use(alloc, graph, places, order)?,
         flows: flows(alloc, graph, places, order)?,
-        row: straight_row(alloc, proc)?,
+        tables: tables_of(alloc, proc, &tests, control, derivation)?,
+        threats: threats(alloc, proc, &tests, control, derivation)?,
     })
 }
 
-/// The analyses of a procedure exactly where its shape is reducible, from its graph and the derivation of that.
+/// The analyses of a procedure exactly where its shape is reducible, from its graph, its control structure and its
+/// derivation.
 fn analyses_by(
     alloc: Global,
     proc: &CheckedProc,
     graph: &FlowGraph,
-    shape: &Shape,
+    control: &Control,
     derivation: &Derivation,
 ) -> Result<Option<Analyses>, NoMemory>
     requires graph { graph.now ≡ graph_of (procedure_of proc.now) }
     requires formed { IsWellFormed graph.now }
     requires placed { HasPlaces graph.now proc.now.places }
-    requires reduces { Reduces graph.now shape.now derivation.now }
-    ensures analyses { IfOk result (AreAnalysesBy (procedure_of proc.now) shape.now derivation.now.order) }
-    ensures runs { IfOk result (TellsOfRuns (procedure_of proc.now)) }
+    requires control { IsControlOf (graph_of (procedure_of proc.now)) control.now }
+    requires derivation { IsDerivationOf (graph_of (procedure_of proc.now)) control.now.shape derivation.now }
+    requires reduces { Reduces graph.now control.now.shape derivation.now }
+    ensures analyses { IfOk result (AreAnalysesBy (procedure_of proc.now) control.now.loops control.now.shape derivation.now.order) }
+    ensures runs { IfOk result (λ analyses. IfSome analyses (TellsOfRuns (procedure_of proc.now) control.now.loops)) }
 {
-    match shape {
-        Shape::Reducible => Ok(Some(analyses_of(alloc, proc, graph, derivation.order.as_slice())?)),
+    match control.shape {
+        Shape::Reducible => Ok(Some(analyses_of(alloc, proc, graph, control, derivation)?)),
         Shape::TwoEntries(_) => Ok(None),
     }
 }
@@ -66,24 +81,27 @@ fn analyses_by(
 /// intervals (Allen and Cocke, A program data flow analysis procedure, 1976) and, exactly where that structure is
 /// reducible, its analyses: all paths as one expression over the arcs (Carré, An algebra for network routing problems,
 /// 1971), the use of each variable (by elimination, Carré, Graphs and Networks, 1979), what its final value rests on
-/// (after Bergeretti and Carré, Information-flow and data-flow analysis of while-programs, 1985), and the row of a
-/// straight procedure. So `analyses` is `None` exactly where some cycle can be entered first at two lines.
+/// (after Bergeretti and Carré, Information-flow and data-flow analysis of while-programs, 1985), the table of each
+/// region (King, Symbolic execution and program testing, 1976) and the threats to it, each with its verdict (by inductive
+/// assertions, Floyd, Assigning meanings to programs, 1967). So `analyses` is `None` exactly where some cycle can be
+/// entered first at two lines.
 ///
-/// Two runs that end, and whose initial states agree on the sources of a row of flow, end with equal values of its
-/// variable. Each run of a straight procedure from an initial state ends, and each place then has the first value of the
-/// place that the row gives for it.
+/// Each table of a region within its size has exactly one row for each input of the region, and stepping the lines from
+/// that input gives the row's stop and values. Where no table is past its size and every threat is refuted, no run from
+/// the precondition faults, fails an assertion or ends outside the postcondition. Two runs that end, and whose initial
+/// states agree on the sources of a row of flow, end with equal values of its variable.
 ///
-/// The structure and the derivation take time at most quadratic in the lines, the row linear time, and the rest that of
-/// `paths`, `data_use` and `flows`: eliminations, and for each variable rounds of questions about tests. The only error is
-/// `NoMemory`.
+/// The structure and the derivation take time at most quadratic in the lines, and the rest that of `paths`, `data_use`,
+/// `flows`, `table` and `threats`: eliminations, for each variable rounds of questions about tests, and walks over the
+/// paths of the regions, of which each has at most 16,384 within its size. The only error is `NoMemory`.
 pub fn analyse_proc(alloc: Global, proc: &CheckedProc) -> Result<ProcReport, NoMemory>
     ensures report { IfOk result (IsProcReportOf (text_procedure proc.now)) }
-    ensures runs { IfOk result (λ r. TellsOfRuns (procedure_of proc.now) r.analyses) }
+    ensures runs { IfOk result (λ r. IfSome r.analyses (TellsOfRuns (procedure_of proc.now) r.control.loops)) }
 {
     let graph = build(alloc, proc)?;
     let control = control_of(alloc, &graph)?;
     let derivation = derive(alloc, &graph, &control)?;
-    let analyses = analyses_by(alloc, proc, &graph, &control.shape, &derivation)?;
+    let analyses = analyses_by(alloc, proc, &graph, &control, &derivation)?;
     let places = Vec::from_slice(alloc, proc.places().as_slice())?;
     Ok(ProcReport {
         name: proc.name(),

@@ -13,3 +13,6 @@ pub mod Tallies
 pub mod Totals
 pub mod Walking
 pub mod Sized
+pub mod Counts
+pub mod Rounds
+pub mod Settled

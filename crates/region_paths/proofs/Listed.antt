@@ -26,7 +26,7 @@ use Rattle.region_paths.proofs.Fits.{fits, ended, along-holds, along-ends}
 use Rattle.region_paths.proofs.Steps.{chain_steps, long_chain_steps}
 
 -- a tree that matches some chains lists their rows
-tree_lists : (t : PathTree) (C : List Way → Stop → Type 0) (n : ℕ) → Matches t C → ListsPaths (IsRowOf C (own_values n)) (paths_down t (own_values n))
+pub tree_lists : (t : PathTree) (C : List Way → Stop → Type 0) (n : ℕ) → Matches t C → ListsPaths (IsRowOf C (own_values n)) (paths_down t (own_values n))
 tree_lists t C n m = record { ordered = paths_down-ascend t (own_values n); each = λ r. m (own_values n) r }
 
 pub are_listed : (p : Procedure) (loops : List LoopInfo) (pc : ℕ) → WaysGoAlongArcs → BeginsRegion p loops pc → AreListed p loops pc

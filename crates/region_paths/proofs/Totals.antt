@@ -282,11 +282,15 @@ passed_capped rows n w d =
     ∙ ap (λ (x : Bool). first_of (nat_lt 16384 rows) (nat_lt 2097152 n) x (nat_lt 1000 (min d 1001))) (weight_capped (2 ^ 100) w)
     ∙ ap (first_of (nat_lt 16384 rows) (nat_lt 2097152 n) (nat_le (2 ^ 100) w)) (same_lt 1000 (min d 1001) d (λ h. omega (arith, h)) (λ h. omega (arith, h)))
 
+-- too many paths are the first limit
+pub many_rows : (rows : List RegionPath) → 16384 < length rows → past_of rows ≡ Some Rows
+many_rows rows h =
+    ap (λ (x : Bool). first_of x (nat_lt 2097152 (sum_by path_nodes rows)) (nat_le (2 ^ 100) (greatest_by path_weight rows)) (nat_lt 1000 (greatest_by path_depth rows))) (lt-ltb 16384 (length rows) h)
+
 -- the limit that some paths pass first is that of their tally
 limit_told : (rows : List RegionPath) (o : Option Tally) → Tells rows empty o → limit_of o ≡ past_of rows
 limit_told rows None t =
-    let h : 16384 < length rows = omega (arith, t) in
-    sym (ap (λ (x : Bool). first_of x (nat_lt 2097152 (sum_by path_nodes rows)) (nat_le (2 ^ 100) (greatest_by path_weight rows)) (nat_lt 1000 (greatest_by path_depth rows))) (lt-ltb 16384 (length rows) h))
+    sym (many_rows rows (omega (arith, t)))
 limit_told rows (Some b) t =
     let paths : b.paths ≡ length rows = omega (arith, t.paths) in
     let nodes : b.nodes ≡ min (sum_by path_nodes rows) 2097153 = omega (arith, t.nodes) in

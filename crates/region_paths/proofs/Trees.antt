@@ -1,5 +1,5 @@
 -- The trees of a region have exactly the rows of its chains.
-use Rattle.std.proofs.Common.{◌≡◌, refl, sym, ap, ◌∙◌, subst, ℕ, zero, suc, ◌+◌, ◌<◌, Bool, true, false, Some, List, [], ◌∷◌, ◌++◌, length, slice_get, arith}
+use Rattle.std.proofs.Common.{◌≡◌, refl, sym, ap, ◌∙◌, subst, ℕ, zero, suc, ◌+◌, ◌<◌, ◌≤◌, Bool, true, false, Some, List, [], ◌∷◌, ◌++◌, length, slice_get, arith}
 use Rattle.std.specs.Prelude.{◌↔◌, MatchBool, if◌then◌else◌}
 use Rattle.std.proofs.lemmas.List.{length-append, length-map}
 use Rattle.il_core.specs.LineGraph.{IsPath, HasArc}
@@ -59,12 +59,12 @@ unmarked-more : (cuts : List Bool) (qs : List ℕ) (r : ℕ) → AreUnmarked cut
 unmarked-more cuts [] r u h = (h, tt)
 unmarked-more cuts (q ∷ qs) r u h = (u.0, unmarked-more cuts qs r u.1 h)
 
--- the lines from the first line of a region to line q, so many that k more may follow
+-- the lines from the first line of a region to line q, so many that no path has k more
 record Trail (p : Procedure) (loops : List LoopInfo) (pc q k : ℕ) : Type 0 where
   lines : List ℕ
   path : IsPath p pc lines q
   unmarked : AreUnmarked (head_marks (length p.lines) loops) lines
-  room : length lines + k ≡ suc (length p.lines)
+  room : suc (length p.lines) ≤ length lines + k
 
 -- one line more
 trail_on : (p : Procedure) (loops : List LoopInfo) (pc q r k : ℕ) → IsChecked p → Trail p loops pc q (suc k) → HasArc p q r → is_head loops r ≡ false → Trail p loops pc r k
@@ -94,11 +94,11 @@ tree_matches p loops pc at_head B arcs b m (suc k) q t =
     (λ r e f. tree_matches p loops pc at_head B arcs b m k r (trail_on p loops pc q r k b.checked t (arcs p q r w i e) f))))
     (chain_begins p loops B q)
 
--- the tree of a region's first line
-region_matches : (p : Procedure) (loops : List LoopInfo) (pc : ℕ) (at_head : ℕ → PathTree) (B : ℕ → List Way → Stop → Type 0) → WaysGoAlongArcs → BeginsRegion p loops pc
-    → ((q : ℕ) → Matches (at_head q) (B q)) → Matches (tree_to p loops at_head (suc (length p.lines)) pc) (IsChainTo p loops B pc)
-region_matches p loops pc at_head B arcs b m =
-    tree_matches p loops pc at_head B arcs b m (suc (length p.lines)) pc (record { lines = []; path = refl; unmarked = tt; room = omega arith })
+-- the tree of a region's first line, as far as more lines than there are
+region_matches : (p : Procedure) (loops : List LoopInfo) (pc : ℕ) (at_head : ℕ → PathTree) (B : ℕ → List Way → Stop → Type 0) (n : ℕ) → suc (length p.lines) ≤ n → WaysGoAlongArcs
+    → BeginsRegion p loops pc → ((q : ℕ) → Matches (at_head q) (B q)) → Matches (tree_to p loops at_head n pc) (IsChainTo p loops B pc)
+region_matches p loops pc at_head B n far arcs b m =
+    tree_matches p loops pc at_head B arcs b m n pc (record { lines = []; path = refl; unmarked = tt; room = omega (arith, far) })
 
 -- what stands below the end of a leading assertion's way
 passed_matches : (t : PathTree) (C : List Way → Stop → Type 0) (to : Next) → Matches t C → Matches (passed t to) (λ ws end. Passes to ws end (C ws end))
@@ -122,9 +122,15 @@ leading_matches p head (a ∷ lines) =
 
 pub short_matches : (p : Procedure) (loops : List LoopInfo) (pc : ℕ) → WaysGoAlongArcs → BeginsRegion p loops pc → Matches (short_tree p loops pc) (IsChain p loops pc)
 unfolding short_tree
-short_matches p loops pc arcs b = region_matches p loops pc (λ q. stops (stop.Head q)) (λ q. StopsAt (stop.Head q)) arcs b (λ q. stops_match (stop.Head q))
+short_matches p loops pc arcs b =
+    region_matches p loops pc (λ q. stops (stop.Head q)) (λ q. StopsAt (stop.Head q)) (suc (length p.lines)) (omega arith) arcs b (λ q. stops_match (stop.Head q))
+
+-- the long paths, as far as more lines than there are
+pub far_matches : (p : Procedure) (loops : List LoopInfo) (pc n : ℕ) → suc (length p.lines) ≤ n → WaysGoAlongArcs → BeginsRegion p loops pc
+    → Matches (tree_to p loops (λ q. leading_tree p q (leading_of loops q)) n pc) (IsLongChain p loops pc)
+far_matches p loops pc n far arcs b =
+    region_matches p loops pc (λ q. leading_tree p q (leading_of loops q)) (λ q. Leads p q (leading_of loops q)) n far arcs b (λ q. leading_matches p q (leading_of loops q))
 
 pub long_matches : (p : Procedure) (loops : List LoopInfo) (pc : ℕ) → WaysGoAlongArcs → BeginsRegion p loops pc → Matches (long_tree p loops pc) (IsLongChain p loops pc)
 unfolding long_tree
-long_matches p loops pc arcs b =
-    region_matches p loops pc (λ q. leading_tree p q (leading_of loops q)) (λ q. Leads p q (leading_of loops q)) arcs b (λ q. leading_matches p q (leading_of loops q))
+long_matches p loops pc arcs b = far_matches p loops pc (suc (length p.lines)) (omega arith) arcs b

@@ -2,6 +2,7 @@
 use Rattle.std.proofs.Common.{◌≡◌, inl, inr, refl, sym, ap, ◌∙◌, subst, ℕ, zero, suc, ◌+◌, ◌-◌, ◌*◌, ◌<◌, Option, Some, None, List, [], ◌∷◌, map, length, slice_get, take, drop, arith}
 use Rattle.std.specs.Prelude.{slice_set}
 use Rattle.std.specs.Option.{option_map}
+use Rattle.std.specs.Bool.{OnTrue}
 use Rattle.std.proofs.lemmas.List.{map-set, set-set, set-get_or, take_all}
 use Rattle.std.proofs.lemmas.Option.{slice_get_within, get_or_from_slice_get}
 use Rattle.il_core.specs.Procedure.{Procedure}
@@ -29,7 +30,7 @@ use Rattle.il_core.specs.LineGraph.{IsIn}
 use Rattle.control_flow.specs.declared.control.LoopInfo.{LoopInfo}
 use Rattle.region_paths.specs.Region.{is_head, leading_of}
 use Rattle.region_paths.specs.PathTree.{PathTree, change, grafted, below, tree_to, leading_tree}
-use Rattle.region_paths.specs.Tally.{comparison_measured, with_size, with_path, tallied}
+use Rattle.region_paths.specs.Tally.{outcome, comparison_measured, with_size, with_path, tallied}
 use Rattle.region_paths.specs.Walk.{StandsAt}
 use Rattle.region_paths.specs.declared.tally.Tally.{Tally}
 use Rattle.region_paths.proofs.Nodes.{at_test, at_assign, at_line, at_stop, first_unfolds}
@@ -41,6 +42,19 @@ met_by m a o = option_map (λ (b : Tally). with_size m (b.paths - a.paths) b) o
 same_option : (o : Option Tally) → o ≡ option_map (λ (b : Tally). b) o
 same_option None = refl
 same_option (Some b) = refl
+
+-- what is told of a walk that ended within the paths, and of one that did not
+pub on_true : (b : Bool) (X : Type 0) → b ≡ true → OnTrue b X → X
+on_true true X e h = h
+on_true false X e h = absurd (cc)
+
+pub is_some : (b : Bool) (a : Tally) (o : Option Tally) → b ≡ true → outcome b a ≡ o → Some a ≡ o
+is_some true a o e h = h
+is_some false a o e h = absurd (cc)
+
+pub is_none : (b : Bool) (a : Tally) (o : Option Tally) → b ≡ false → outcome b a ≡ o → None ≡ o
+is_none true a o e h = absurd (cc)
+is_none false a o e h = h
 
 -- a test whose true side has too many paths
 pub test_none : (p : Procedure) (g : TestGraph) (below : Next → PathTree) (id : ℕ) (literal : Literal) (met unmet : ℕ) (d : Decision) (terms : List Tree) (a : Tally) → IsLowered p g
@@ -216,8 +230,8 @@ head_first x rest line e = by_test (nat_eq x.head line) (eq-eqb x.head line e)
 -- the loop of a head, where those before it are others'
 pub head_here : (loops : List LoopInfo) (k line : ℕ) (x : LoopInfo) → slice_get loops k ≡ Some x → x.head ≡ line → is_head loops line ≡ is_head (drop k loops) line
     → leading_of loops line ≡ leading_of (drop k loops) line
-    → (l : LoopInfo) × (slice_get loops k ≡ Some l) × (is_head loops line ≡ true) × (leading_of loops line ≡ l.leading)
+    → (l : LoopInfo) × (slice_get loops k ≡ Some l) × (is_head loops line ≡ true) × (leading_of loops line ≡ l.leading) × (l.head ≡ line)
 head_here loops k line x e h m n =
     let t = drop_at loops k x e in
     let f = head_first x t.0 line h in
-    (x, e, m ∙ ap (λ (z : List LoopInfo). is_head z line) t.1 ∙ f.0, n ∙ ap (λ (z : List LoopInfo). leading_of z line) t.1 ∙ f.1)
+    (x, e, m ∙ ap (λ (z : List LoopInfo). is_head z line) t.1 ∙ f.0, n ∙ ap (λ (z : List LoopInfo). leading_of z line) t.1 ∙ f.1, h)

@@ -7,4 +7,5 @@ pub mod PathTree
 pub mod Size
 pub mod Tally
 pub mod Walk
+pub mod Count
 pub mod Laws

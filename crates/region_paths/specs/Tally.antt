@@ -1,6 +1,6 @@
 -- What the paths down a tree come to, path after path: how many they are, how many nodes their comparisons and assigned terms have together,
 -- and the greatest weight and depth among these; each number stops at its cap, and past 16,384 paths there is no answer.
-use Rattle.std.specs.Prelude.{ℕ, ◌+◌, ◌-◌, ◌*◌, ◌^◌, ◌≤◌, Option, Some, None, List, min, max, nat_lt, option_and_then, if◌then◌else◌}
+use Rattle.std.specs.Prelude.{ℕ, Bool, true, false, ◌+◌, ◌-◌, ◌*◌, ◌^◌, ◌≤◌, Option, Some, None, List, min, max, nat_lt, option_and_then, if◌then◌else◌}
 use Rattle.std.specs.Option.{option_map}
 use Rattle.sym_terms.specs.Tree.{Tree}
 use Rattle.sym_terms.specs.Measure.{measured}
@@ -34,6 +34,11 @@ pub record IsGrown (a b : Tally) : Type 0 where
 
 abbrev pub empty : Tally
 empty = record { paths = 0; nodes = 0; weight = 0; depth = 0 }
+
+-- where there are too many paths, no tally
+abbrev pub outcome : Bool → Tally → Option Tally
+outcome true a = Some a
+outcome false a = None
 
 abbrev pub with_path : Tally → Option Tally
 with_path a = if nat_lt a.paths 16384 then Some (record { paths = a.paths + 1; nodes = a.nodes; weight = a.weight; depth = a.depth }) else None

@@ -5,6 +5,7 @@
 //! its long paths.
 #![tactic(auto)]
 
+mod counting;
 mod laws;
 mod limit;
 mod sizing;
@@ -16,3 +17,4 @@ pub use laws::{
 };
 pub use limit::Limit;
 pub use sizing::size;
+pub use walk::{first_node, leading_at, loop_of};

@@ -1,4 +1,5 @@
-//! The size of a region, found along one walk down the tree of its long paths.
+//! The size of a region: its long paths are counted from the ends, and where they are few enough, one walk down their tree
+//! finds the rest.
 ghost use Rattle.std.specs.Prelude.{◌≡◌, IfOk, All, map};
 ghost use Rattle.il_core.specs.LineGraph.{IsIn};
 ghost use Rattle.il_core.specs.Checked.{procedure_of};
@@ -11,9 +12,10 @@ ghost use Rattle.test_graph.specs.Lowered.{IsLowered};
 ghost use Rattle.region_paths.specs.Region.{first_lines};
 ghost use Rattle.region_paths.specs.Size.{IsPast};
 
+use crate::counting::path_count;
 use crate::laws::paths_are_listed;
 use crate::limit::Limit;
-use crate::tally::Tally;
+use crate::tally::{MOST_PATHS, Tally};
 use crate::walk::{first_node, follow};
 use control_flow::Control;
 use il_core::{CheckedProc, NoMemory};
@@ -41,9 +43,11 @@ fn own_sizes(alloc: Global, count: usize) -> Result<Vec<TermMeasure>, NoMemory>
 /// paths; more than 2,097,152 nodes of the comparisons decided and the terms assigned on them, counted for each path;
 /// one of these with a weight of 2^100 or more; one deeper than 1,000.
 ///
-/// `graph` and `control` are those of `proc`, whose shape is reducible, and `pc` is line 0 or a loop head. It walks down
-/// the tree of decisions once, with the capped sizes of the places' terms in place of the terms, and stops at too many
-/// paths. It takes memory for the places alone, and goes as deep as a path has decisions.
+/// `graph` and `control` are those of `proc`, whose shape is reducible, and `pc` is line 0 or a loop head. It counts the
+/// long paths first, by adding from the ends, without recursion. Only where there are at most 16,384 it walks down the
+/// tree of decisions once, with the capped sizes of the places' terms in place of the terms; it goes as deep as a path
+/// has decisions, fewer than 16,384, and twice as deep as it has lines. It takes memory for the places, the lines and
+/// the nodes.
 pub fn size(
     alloc: Global,
     proc: &CheckedProc,
@@ -58,19 +62,25 @@ pub fn size(
     ensures { IfOk result (λ past. IsPast (procedure_of proc.now) control.now.loops pc past) }
 {
     paths_are_listed();
-    let mut sizes = own_sizes(alloc, proc.places().len())?;
+    let places = proc.places().len();
+    if path_count(alloc, proc, graph, control, pc)? > MOST_PATHS {
+        return Ok(Some(Limit::Rows));
+    }
+    let mut sizes = own_sizes(alloc, places)?;
     let first = first_node(proc, graph, pc);
-    let tally = follow(
+    let mut tally = Tally::empty();
+    let within = follow(
         proc,
         graph,
         control.loops.as_slice(),
         first,
         proc.lines().len(),
         &mut sizes,
-        Tally::empty(),
+        &mut tally,
     );
-    match tally {
-        Some(tally) => Ok(tally.limit()),
-        None => Ok(Some(Limit::Rows)),
+    if within {
+        Ok(tally.limit())
+    } else {
+        Ok(Some(Limit::Rows))
     }
 }

@@ -1,10 +1,10 @@
 //! What the paths of a region come to, capped.
 ghost use Rattle.std.specs.Prelude.{◌≡◌, ◌≤◌, ◌<◌, ◌+◌, ◌-◌, List, All, IfSome, Some, length, map, slice_get, slice_set};
-ghost use Rattle.std.specs.Option.{option_map, ForSome};
+ghost use Rattle.std.specs.Bool.{OnTrue};
 ghost use Rattle.sym_terms.specs.Tree.{Tree};
 ghost use Rattle.sym_terms.specs.Measure.{measured, IsCapped};
 ghost use Rattle.sym_terms.specs.Comparison.{comparison_of, comparison_under, ComparesPlacesBelow};
-ghost use Rattle.region_paths.specs.Tally.{comparison_measured, IsTally, IsGrown, empty};
+ghost use Rattle.region_paths.specs.Tally.{comparison_measured, IsTally, IsGrown, empty, outcome};
 ghost use Rattle.region_paths.specs.Tally as spec;
 ghost use Rattle.region_paths.specs.Size.{limit_passed};
 
@@ -12,7 +12,7 @@ use crate::limit::Limit;
 use sym_terms::{DEPTH_CAP, Literal, NODE_CAP, TermMeasure, WEIGHT_CAP, measure};
 
 /// The most long paths that a region within its size has.
-const MOST_PATHS: u64 = 16_384;
+pub const MOST_PATHS: u64 = 16_384;
 
 /// How many paths there are so far, how many nodes their comparisons and assigned terms have together, and the
 /// greatest weight and depth among these. The last three stop at the caps of a measure.
@@ -41,35 +41,31 @@ impl Tally {
         }
     }
 
-    /// One path more; `None` where there are too many.
-    pub fn with_path(self) -> Option<Tally>
-        ensures { result ≡ spec.with_path self }
+    /// One path more; false where there are too many.
+    pub fn add_path(&mut self) -> bool
+        requires tally { IsTally self.old }
+        ensures exact { outcome result self.new ≡ spec.with_path self.old }
+        ensures grown { OnTrue result (IsGrown self.old self.new) }
     {
-        if self.paths < MOST_PATHS {
-            Some(Tally {
-                paths: self.paths + 1,
-                nodes: self.nodes,
-                weight: self.weight,
-                depth: self.depth,
-            })
-        } else {
-            None
+        let room = self.paths < MOST_PATHS;
+        if room {
+            self.paths += 1;
         }
+        room
     }
 
-    /// A comparison or a term of this size that stands on as many paths as `count` says.
-    pub fn with_size(self, size: TermMeasure, count: u64) -> Tally
-        requires tally { IsTally self }
+    /// A comparison or a term of this size that stands on each path behind the first `before`.
+    pub fn meet(&mut self, size: TermMeasure, before: u64)
+        requires tally { IsTally self.old }
         requires capped { IsCapped size }
-        requires few { count ≤ 16384 }
-        ensures { result ≡ spec.with_size size count self }
+        requires before { before ≤ self.old.paths }
+        ensures exact { self.new ≡ spec.with_size size (self.old.paths - before) self.old }
+        ensures sound { IsTally self.new }
     {
-        Tally {
-            paths: self.paths,
-            nodes: (self.nodes + size.nodes * count).min(NODE_CAP),
-            weight: self.weight.max(size.weight),
-            depth: self.depth.max(size.depth),
-        }
+        let count = self.paths - before;
+        self.nodes = (self.nodes + size.nodes * count).min(NODE_CAP);
+        self.weight = self.weight.max(size.weight);
+        self.depth = self.depth.max(size.depth);
     }
 
     /// The first limit that is passed.
@@ -103,19 +99,6 @@ pub fn comparison_measure(literal: &Literal, env: &[TermMeasure]) -> TermMeasure
         nodes: (left.nodes + right.nodes).min(NODE_CAP),
         weight: (left.weight + right.weight).min(WEIGHT_CAP),
         depth: left.depth.max(right.depth).min(DEPTH_CAP),
-    }
-}
-
-/// A comparison or a term of this size that stands on each path which came to a tally.
-pub fn met_by(size: TermMeasure, before: Tally, after: Option<Tally>) -> Option<Tally>
-    requires capped { IsCapped size }
-    requires grown { ForSome after (λ b. IsGrown before b) }
-    ensures exact { result ≡ option_map (λ b. spec.with_size size (b.paths - before.paths) b) after }
-    ensures grown { IfSome result (λ b. IsGrown before b) }
-{
-    match after {
-        Some(tally) => Some(tally.with_size(size, tally.paths - before.paths)),
-        None => None,
     }
 }
 

@@ -1,7 +1,7 @@
 pub mod Pieces
-pub mod Lists
 pub mod Sections
+pub mod Path
+pub mod Tables
+pub mod Threats
 pub mod Report
-pub mod Straight
-pub mod Reported
 pub mod Refusal

@@ -1,13 +1,13 @@
 -- The text of a report: its head, a part for each procedure with the sections that are selected, and its status.
-use Rattle.std.specs.Prelude.{ℕ, Bool, true, false, List, [], ◌++◌, codes, decimal, Option, None, Some, if◌then◌else◌}
-use Rattle.std.specs.List.{flat_map, list_all}
-use Rattle.control_flow.specs.declared.control.Shape.{Shape}
-use Rattle.control_flow.specs.declared.control.Shape.TheVariants.{Reducible, TwoEntries}
-use Rattle.il_core.specs.declared.line.Place.{Place}
-use Rattle.report_text.specs.declared.report.ProcReport.{ProcReport}
-use Rattle.report_text.specs.declared.report.Report.{Report}
-use Rattle.report_text.specs.declared.report.Selection.{Selection}
-use Rattle.report_text.specs.Sections.{control_text, usage_text, flows_text, paths_text, row_text}
+use Rattle.std.specs.Prelude.{ℕ, Bool, List, [], ◌++◌, codes, decimal, None, Some, if◌then◌else◌}
+use Rattle.std.specs.List.{flat_map}
+use Rattle.report.specs.Status.{status_of}
+use Rattle.report.specs.declared.report.ProcReport.{ProcReport}
+use Rattle.report.specs.declared.report.Report.{Report}
+use Rattle.report_text.specs.declared.selection.Selection.{Selection}
+use Rattle.report_text.specs.Sections.{control_text, usage_text, flows_text, paths_text}
+use Rattle.report_text.specs.Tables.{tables_text}
+use Rattle.report_text.specs.Threats.{threats_text}
 
 -- the first two lines
 unfoldable pub head_text : Report → List ℕ
@@ -30,13 +30,11 @@ flow_section p = elim p.analyses [ None ↦ codes "FLOW\n" ++ not_reported | Som
 unfoldable pub paths_section : ProcReport → List ℕ
 paths_section p = elim p.analyses [ None ↦ codes "PATHS\n" ++ not_reported | Some a ↦ paths_text p.arcs a.paths ]
 
--- the table, which stands for a straight procedure alone
-abbrev pub table_text : List Place → Option (List ℕ) → List ℕ
-table_text places None = []
-table_text places (Some row) = row_text places row
-
 unfoldable pub semantic_section : ProcReport → List ℕ
-semantic_section p = elim p.analyses [ None ↦ [] | Some a ↦ table_text p.places a.row ]
+semantic_section p = elim p.analyses [ None ↦ codes "SEMANTIC\n" ++ not_reported | Some a ↦ tables_text p.places a.tables ]
+
+unfoldable pub compliance_section : ProcReport → List ℕ
+compliance_section p = elim p.analyses [ None ↦ codes "COMPLIANCE\n" ++ not_reported | Some a ↦ threats_text p.places a.tables a.threats ]
 
 -- the line of a procedure
 unfoldable pub title_text : ProcReport → List ℕ
@@ -46,18 +44,11 @@ title_text p = codes "PROCEDURE " ++ p.name ++ codes " LINES " ++ decimal p.line
 unfoldable pub part_text : Selection → ProcReport → List ℕ
 part_text selection p = title_text p ++ chosen selection.control (control_text p.control p.derivation) ++ chosen selection.usage (usage_section p)
     ++ chosen selection.flow (flow_section p) ++ chosen selection.paths (paths_section p) ++ chosen selection.semantic (semantic_section p)
+    ++ chosen selection.compliance (compliance_section p)
 
 -- the last line
 unfoldable pub end_text : ℕ → List ℕ
 end_text status = codes "STATUS " ++ decimal status ++ codes "\n"
-
-abbrev pub is_reducible : Shape → Bool
-is_reducible Reducible = true
-is_reducible (TwoEntries e) = false
-
--- 0 exactly where every procedure is reducible, else 1
-abbrev pub status_of : Report → ℕ
-status_of report = if list_all (λ p. is_reducible p.control.shape) report.procs then 0 else 1
 
 -- all parts, one after the other
 abbrev pub parts_text : Selection → List ProcReport → List ℕ

@@ -1,5 +1,5 @@
 -- The sections of a procedure's report, each with its heading.
-use Rattle.std.specs.Prelude.{ℕ, ◌==◌, Bool, List, [], ◌++◌, codes, decimal, if◌then◌else◌}
+use Rattle.std.specs.Prelude.{ℕ, Bool, List, ◌++◌, codes, decimal, if◌then◌else◌}
 use Rattle.std.specs.List.{flat_map}
 use Rattle.control_flow.specs.declared.control.Control.{Control}
 use Rattle.control_flow.specs.declared.control.LoopInfo.{LoopInfo}
@@ -16,7 +16,7 @@ use Rattle.path_expr.specs.declared.report.Ref.{Ref}
 use Rattle.path_expr.specs.declared.report.Ref.TheVariants as ref
 use Rattle.path_expr.specs.declared.report.Def.{Def}
 use Rattle.path_expr.specs.declared.report.Def.TheVariants.{Sum, Product, Star}
-use Rattle.report_text.specs.Lists.{numbered, line_text, lines_text, place_at, names_text}
+use Rattle.form_text.specs.Lists.{numbered, line_text, lines_text, place_at, names_text}
 
 -- a loop by its head, with its members and its leading assertions
 unfoldable pub loop_text : LoopInfo → List ℕ
@@ -78,11 +78,3 @@ def_text n d = codes "E" ++ decimal n ++ codes " = " ++ meaning_text d ++ codes 
 
 unfoldable pub paths_text : List Arc → PathReport → List ℕ
 paths_text arcs p = codes "PATHS\n" ++ numbered arc_text 1 arcs ++ numbered def_text 1 p.defs ++ codes "ALL = " ++ ref_text p.whole ++ codes "\n"
-
--- the line of a place that has the first value of another one; none where that is its own
-unfoldable pub change_text : List Place → ℕ → ℕ → List ℕ
-change_text places at source = if at == source then [] else (place_at places at ++ codes " := " ++ place_at places source ++ codes "\n")
-
--- the table of a straight procedure: one row, which each input takes
-unfoldable pub row_text : List Place → List ℕ → List ℕ
-row_text places row = codes "SEMANTIC\nREGION L0\nROW 1 PATH -\nSTOP END\n" ++ numbered (change_text places) 0 row

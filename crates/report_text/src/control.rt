@@ -3,13 +3,13 @@ ghost use Rattle.std.specs.List.{flat_map};
 ghost use Rattle.control_flow.specs.declared.control.Shape.TheVariants.{TwoEntries};
 ghost use Rattle.il_edge.specs.Faults.{HasCause};
 ghost use Rattle.il_edge.specs.Known.{SameTold};
-ghost use Rattle.report_text.specs.Lists.{numbered};
-ghost use Rattle.report_text.specs.Pieces.{Writes};
+ghost use Rattle.form_text.specs.Lists.{numbered};
+ghost use Rattle.form_text.specs.Pieces.{Writes};
 ghost use Rattle.report_text.specs.Sections.{control_text, interval_text, level_text, loop_text, shape_text};
 
 use crate::lists::{put_labelled, put_line};
-use crate::pieces::put;
 use control_flow::{Control, Entries, LoopInfo, Shape};
+use form_text::put;
 use il_core::List;
 use il_edge::{Failed, Sink};
 use interval_reduce::{Derivation, Interval};

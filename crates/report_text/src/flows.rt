@@ -2,12 +2,12 @@ ghost use Rattle.std.specs.Prelude.{◌≡◌, ◌++◌, codes};
 ghost use Rattle.std.specs.List.{flat_map};
 ghost use Rattle.il_edge.specs.Faults.{HasCause};
 ghost use Rattle.il_edge.specs.Known.{SameTold};
-ghost use Rattle.report_text.specs.Lists.{place_at};
-ghost use Rattle.report_text.specs.Pieces.{Writes};
+ghost use Rattle.form_text.specs.Lists.{place_at};
+ghost use Rattle.form_text.specs.Pieces.{Writes};
 ghost use Rattle.report_text.specs.Sections.{flow_text, flows_text};
 
-use crate::lists::{place_name, put_lines, put_names};
-use crate::pieces::put;
+use crate::lists::{put_lines, put_names};
+use form_text::{place_name, put};
 use il_core::Place;
 use il_edge::{Failed, Sink};
 use info_flow::FlowRow;

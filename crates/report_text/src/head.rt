@@ -1,15 +1,13 @@
 ghost use Rattle.std.specs.Prelude.{◌≡◌, ◌≤◌};
-ghost use Rattle.std.specs.List.{list_all};
 ghost use Rattle.il_edge.specs.Faults.{HasCause};
 ghost use Rattle.il_edge.specs.Known.{SameTold};
-ghost use Rattle.report_text.specs.Pieces.{Writes};
-ghost use Rattle.report_text.specs.Report.{end_text, head_text, is_reducible, status_of};
+ghost use Rattle.form_text.specs.Pieces.{Writes};
+ghost use Rattle.report_text.specs.Report.{end_text, head_text};
 
-use crate::pieces::put;
-use crate::report::{ProcReport, Report};
-use control_flow::Shape;
+use form_text::put;
 use il_edge::{Failed, Sink};
 use itoa::Buffer;
+use report::Report;
 
 /// Writes the first two lines of a report: the profile of the text, and its title. `Failed` comes only where the sink's
 /// count of faults rose in this call, and then a prefix of the lines was written. It takes no memory and leaves what is
@@ -47,28 +45,4 @@ pub fn put_end<K: Sink>(status: u8, sink: &mut K) -> Result<(), Failed>
 {
     let mut digits = Buffer::new();
     put(sink, &[b"STATUS ", digits.format(status).as_bytes(), b"\n"])
-}
-
-fn is_reducible(shape: &Shape) -> bool
-    ensures { result ≡ is_reducible shape.now }
-{
-    matches!(shape, Shape::Reducible)
-}
-
-fn are_reducible(procs: &[ProcReport]) -> bool
-    ensures { result ≡ list_all (λ p. is_reducible p.control.shape) procs.now }
-{
-    procs.iter().all(|part| is_reducible(&part.control.shape))
-}
-
-/// The status of a report: 0 where every procedure is reducible, else 1. It takes no memory and costs time linear in the
-/// number of procedures.
-pub fn status_of(report: &Report) -> u8
-    ensures { result ≡ status_of report.now }
-{
-    if are_reducible(report.procs.as_slice()) {
-        0
-    } else {
-        1
-    }
 }

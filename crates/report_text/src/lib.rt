@@ -1,8 +1,8 @@
 //! The text of what the suite answers. The text of a report is a head, a part for each procedure and an end, which is a
-//! line with the status: [`put_head`], [`put_part`] and [`put_end`] write them, and [`status_of`] tells the status. A
-//! part has the sections that are selected: the control structure with the reduction by intervals, the use of variables,
-//! the flow of information, the paths, and the table of a straight procedure. [`put_refusal`] writes the one line of a
-//! refused text, and [`put_words`] the one line that answers words that are not understood. Each text is a definition of
+//! line with the status: [`put_head`], [`put_part`] and [`put_end`] write them, and [`put`] writes them all. A part has
+//! the sections that are selected: the control structure with the reduction by intervals, the use of variables, the flow
+//! of information, the paths, the tables of the regions, and the threats with their verdicts. [`put_refusal`] writes the
+//! one line of a refused text, and [`put_words`] the one line that answers words that are not understood. Each text is a definition of
 //! its own, a list of bytes made of pieces: fixed words, names, and numbers by their decimal text. A call sends the
 //! pieces to a sink one after the other. It takes no memory, costs time linear in the text, leaves what is settled as it
 //! was, and after a fault of the sink has written a prefix of the text.
@@ -14,14 +14,17 @@ mod head;
 mod lists;
 mod part;
 mod paths;
-mod pieces;
 mod refusal;
-mod report;
-mod row;
 mod sections;
+mod selection;
+mod stops;
+mod tables;
+mod threats;
 mod usage;
+mod whole;
 
-pub use head::{put_end, put_head, status_of};
+pub use head::{put_end, put_head};
 pub use part::put_part;
 pub use refusal::{put_refusal, put_words};
-pub use report::{Analyses, ProcReport, Report, Selection};
+pub use selection::Selection;
+pub use whole::put;

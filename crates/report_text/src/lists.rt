@@ -2,10 +2,10 @@ ghost use Rattle.std.specs.Prelude.{◌≡◌, ◌++◌, codes};
 ghost use Rattle.std.specs.List.{flat_map};
 ghost use Rattle.il_edge.specs.Faults.{HasCause};
 ghost use Rattle.il_edge.specs.Known.{SameTold};
-ghost use Rattle.report_text.specs.Lists.{line_text, lines_text, names_text, old_mark, place_at};
-ghost use Rattle.report_text.specs.Pieces.{Writes};
+ghost use Rattle.form_text.specs.Lists.{line_text, lines_text, names_text, place_at};
+ghost use Rattle.form_text.specs.Pieces.{Writes};
 
-use crate::pieces::put;
+use form_text::{put, put_place};
 use il_core::{List, Place};
 use il_edge::{Failed, Sink};
 use itoa::Buffer;
@@ -37,7 +37,7 @@ fn put_other_lines<K: Sink>(lines: &[usize], sink: &mut K) -> Result<(), Failed>
 }
 
 /// Writes lines with spaces between them, or a dash where there is none.
-#[tactic(auto, unfolding(crate::specs::Lists::lines_text))]
+#[tactic(auto, unfolding(form_text::specs::Lists::lines_text))]
 pub(crate) fn put_lines<K: Sink>(lines: &[usize], sink: &mut K) -> Result<(), Failed>
     ensures text { Writes (K.held sink.old) (K.held sink.new) result (lines_text lines.now) }
     ensures told { SameTold (K.held sink.old) (K.held sink.new) }
@@ -68,38 +68,6 @@ pub(crate) fn put_labelled<K: Sink>(
     put_lines(lines.as_slice(), sink)
 }
 
-fn mark_of(place: &Place) -> &[u8]
-    ensures { result.now ≡ old_mark place.now.old }
-{
-    if place.old { b"OLD " } else { b"" }
-}
-
-/// The mark and the name of the place `at`, both empty where there is none.
-pub(crate) fn place_name(places: &[Place], at: usize) -> (&[u8], &[u8])
-    ensures { place_at places.now at ≡ result.0.now ++ result.1.now }
-{
-    match places.get(at) {
-        None => (b"", b""),
-        Some(place) => (mark_of(place), place.name.as_bytes()),
-    }
-}
-
-/// Writes the place `at` by its name, behind the bytes `before`.
-pub(crate) fn put_place<K: Sink>(
-    before: &[u8],
-    places: &[Place],
-    at: usize,
-    sink: &mut K,
-) -> Result<(), Failed>
-    ensures text { Writes (K.held sink.old) (K.held sink.new) result (before.now ++ place_at places.now at) }
-    ensures told { SameTold (K.held sink.old) (K.held sink.new) }
-    ensures settled { K.settled sink.new ≡ K.settled sink.old }
-    ensures cause { HasCause (K.faults sink.old) (K.faults sink.new) result }
-{
-    let (mark, name) = place_name(places, at);
-    put(sink, &[before, mark, name])
-}
-
 fn put_other_names<K: Sink>(places: &[Place], numbers: &[usize], sink: &mut K) -> Result<(), Failed>
     ensures text { Writes (K.held sink.old) (K.held sink.new) result (flat_map (λ n. codes " " ++ place_at places.now n) numbers.now) }
     ensures told { SameTold (K.held sink.old) (K.held sink.new) }
@@ -116,7 +84,7 @@ fn put_other_names<K: Sink>(places: &[Place], numbers: &[usize], sink: &mut K) -
 }
 
 /// Writes the places of some numbers by their names, with spaces between them, or a dash where there is none.
-#[tactic(auto, unfolding(crate::specs::Lists::names_text))]
+#[tactic(auto, unfolding(form_text::specs::Lists::names_text))]
 pub(crate) fn put_names<K: Sink>(
     places: &[Place],
     numbers: &[usize],

@@ -1,18 +1,20 @@
 ghost use Rattle.std.specs.Prelude.{◌≡◌};
 ghost use Rattle.il_edge.specs.Faults.{HasCause};
 ghost use Rattle.il_edge.specs.Known.{SameTold};
-ghost use Rattle.report_text.specs.Pieces.{Writes};
-ghost use Rattle.report_text.specs.Report.{chosen, flow_section, part_text, paths_section, semantic_section, title_text, usage_section};
+ghost use Rattle.form_text.specs.Pieces.{Puts, Writes};
+ghost use Rattle.report_text.specs.Report.{chosen, compliance_section, flow_section, part_text, paths_section, semantic_section, title_text, usage_section};
 ghost use Rattle.report_text.specs.Sections.{control_text};
 
 use crate::control::put_control;
-use crate::pieces::put;
-use crate::report::{ProcReport, Selection};
 use crate::sections::{
-    put_flow_section, put_paths_section, put_semantic_section, put_usage_section,
+    put_compliance_section, put_flow_section, put_paths_section, put_semantic_section,
+    put_usage_section,
 };
+use crate::selection::Selection;
+use form_text::put;
 use il_edge::{Failed, Sink};
 use itoa::Buffer;
+use report::ProcReport;
 
 #[tactic(auto, unfolding(crate::specs::Report::title_text))]
 fn put_title<K: Sink>(part: &ProcReport, sink: &mut K) -> Result<(), Failed>
@@ -95,10 +97,7 @@ fn put_chosen_semantic<K: Sink>(
     part: &ProcReport,
     sink: &mut K,
 ) -> Result<(), Failed>
-    ensures text { Writes (K.held sink.old) (K.held sink.new) result (chosen selected (semantic_section part.now)) }
-    ensures told { SameTold (K.held sink.old) (K.held sink.new) }
-    ensures settled { K.settled sink.new ≡ K.settled sink.old }
-    ensures cause { HasCause (K.faults sink.old) (K.faults sink.new) result }
+    ensures { Puts K.held K.settled K.faults sink.old sink.new result (chosen selected (semantic_section part.now)) }
 {
     if selected {
         put_semantic_section(part, sink)
@@ -107,11 +106,24 @@ fn put_chosen_semantic<K: Sink>(
     }
 }
 
+fn put_chosen_compliance<K: Sink>(
+    selected: bool,
+    part: &ProcReport,
+    sink: &mut K,
+) -> Result<(), Failed>
+    ensures { Puts K.held K.settled K.faults sink.old sink.new result (chosen selected (compliance_section part.now)) }
+{
+    if selected {
+        put_compliance_section(part, sink)
+    } else {
+        Ok(())
+    }
+}
+
 /// Writes the part of a procedure: its line, and behind it the sections that are selected, in their order. For an
-/// irreducible procedure one line stands in place of each of the sections on use, flow and paths; the table is written
-/// for a straight procedure alone. `Failed` comes only where the sink's count of faults rose in this call, and then a
-/// prefix of the part was written. It takes no memory, leaves what is settled as it was, and costs time linear in the
-/// text.
+/// irreducible procedure one line stands in place of each section but the first. `Failed` comes only where the sink's
+/// count of faults rose in this call, and then a prefix of the part was written. It takes no memory, leaves what is
+/// settled as it was, and costs time linear in what the report tells and in the text.
 #[tactic(auto, unfolding(crate::specs::Report::part_text))]
 pub fn put_part<K: Sink>(
     part: &ProcReport,
@@ -128,5 +140,6 @@ pub fn put_part<K: Sink>(
     put_chosen_usage(selection.usage, part, sink)?;
     put_chosen_flow(selection.flow, part, sink)?;
     put_chosen_paths(selection.paths, part, sink)?;
-    put_chosen_semantic(selection.semantic, part, sink)
+    put_chosen_semantic(selection.semantic, part, sink)?;
+    put_chosen_compliance(selection.compliance, part, sink)
 }

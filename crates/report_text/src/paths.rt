@@ -1,12 +1,12 @@
 ghost use Rattle.std.specs.Prelude.{◌≡◌, ◌++◌, codes, decimal};
 ghost use Rattle.il_edge.specs.Faults.{HasCause};
 ghost use Rattle.il_edge.specs.Known.{SameTold};
-ghost use Rattle.report_text.specs.Lists.{numbered};
-ghost use Rattle.report_text.specs.Pieces.{Writes};
+ghost use Rattle.form_text.specs.Lists.{numbered};
+ghost use Rattle.form_text.specs.Pieces.{Writes};
 ghost use Rattle.report_text.specs.Sections.{arc_text, def_text, paths_text, ref_text};
 
-use crate::pieces::put;
 use flow_graph::Arc;
+use form_text::put;
 use il_edge::{Failed, Sink};
 use itoa::Buffer;
 use path_expr::{Def, PathReport, Ref};

@@ -1,10 +1,10 @@
 ghost use Rattle.std.specs.Prelude.{◌≡◌};
 ghost use Rattle.il_edge.specs.Faults.{HasCause};
 ghost use Rattle.il_edge.specs.Known.{SameTold};
-ghost use Rattle.report_text.specs.Pieces.{Writes};
+ghost use Rattle.form_text.specs.Pieces.{Writes};
 ghost use Rattle.report_text.specs.Refusal.{code_number, code_words, many_words, name_behind, refusal_text, words_text};
 
-use crate::pieces::put;
+use form_text::put;
 use il_core::{Code, Many, Refusal};
 use il_edge::{Failed, Sink};
 use itoa::Buffer;

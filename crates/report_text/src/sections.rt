@@ -1,16 +1,17 @@
 ghost use Rattle.std.specs.Prelude.{◌≡◌};
 ghost use Rattle.il_edge.specs.Faults.{HasCause};
 ghost use Rattle.il_edge.specs.Known.{SameTold};
-ghost use Rattle.report_text.specs.Pieces.{Writes};
-ghost use Rattle.report_text.specs.Report.{flow_section, paths_section, semantic_section, usage_section};
+ghost use Rattle.form_text.specs.Pieces.{Puts, Writes};
+ghost use Rattle.report_text.specs.Report.{compliance_section, flow_section, paths_section, semantic_section, usage_section};
 
 use crate::flows::put_flows;
 use crate::paths::put_paths;
-use crate::pieces::put;
-use crate::report::ProcReport;
-use crate::row::put_row;
+use crate::tables::put_tables;
+use crate::threats::put_threats;
 use crate::usage::put_usage;
+use form_text::put;
 use il_edge::{Failed, Sink};
+use report::ProcReport;
 
 /// Writes the section on the use of variables, or that it is not given for an irreducible procedure. `Failed` comes only
 /// where the sink's count of faults rose in this call, and then a prefix of the section was written. It costs time
@@ -56,19 +57,29 @@ pub(crate) fn put_paths_section<K: Sink>(part: &ProcReport, sink: &mut K) -> Res
     }
 }
 
-/// Writes the table of a straight procedure, and nothing for any other one. It fails as the section on use does.
+/// Writes the section on tables, or that it is not given. It fails as the one on use does.
 #[tactic(auto, unfolding(crate::specs::Report::semantic_section))]
 pub(crate) fn put_semantic_section<K: Sink>(part: &ProcReport, sink: &mut K) -> Result<(), Failed>
-    ensures text { Writes (K.held sink.old) (K.held sink.new) result (semantic_section part.now) }
-    ensures told { SameTold (K.held sink.old) (K.held sink.new) }
-    ensures settled { K.settled sink.new ≡ K.settled sink.old }
-    ensures cause { HasCause (K.faults sink.old) (K.faults sink.new) result }
+    ensures { Puts K.held K.settled K.faults sink.old sink.new result (semantic_section part.now) }
 {
-    let Some(analyses) = &part.analyses else {
-        return Ok(());
-    };
-    match &analyses.row {
-        None => Ok(()),
-        Some(row) => put_row(part.places.as_slice(), row.as_slice(), sink),
+    match &part.analyses {
+        None => put(sink, &[b"SEMANTIC\nNOT REPORTED IRREDUCIBLE\n"]),
+        Some(analyses) => put_tables(part.places.as_slice(), analyses.tables.as_slice(), sink),
+    }
+}
+
+/// Writes the section on threats, or that it is not given. It fails as the one on use does.
+#[tactic(auto, unfolding(crate::specs::Report::compliance_section))]
+pub(crate) fn put_compliance_section<K: Sink>(part: &ProcReport, sink: &mut K) -> Result<(), Failed>
+    ensures { Puts K.held K.settled K.faults sink.old sink.new result (compliance_section part.now) }
+{
+    match &part.analyses {
+        None => put(sink, &[b"COMPLIANCE\nNOT REPORTED IRREDUCIBLE\n"]),
+        Some(analyses) => put_threats(
+            part.places.as_slice(),
+            analyses.tables.as_slice(),
+            analyses.threats.as_slice(),
+            sink,
+        ),
     }
 }

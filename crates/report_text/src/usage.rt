@@ -2,12 +2,11 @@ ghost use Rattle.std.specs.Prelude.{◌≡◌};
 ghost use Rattle.std.specs.List.{flat_map};
 ghost use Rattle.il_edge.specs.Faults.{HasCause};
 ghost use Rattle.il_edge.specs.Known.{SameTold};
-ghost use Rattle.report_text.specs.Pieces.{Writes};
+ghost use Rattle.form_text.specs.Pieces.{Writes};
 ghost use Rattle.report_text.specs.Sections.{usage_text, use_text, yes};
 
-use crate::lists::place_name;
-use crate::pieces::put;
 use data_use::UseRow;
+use form_text::{place_name, put};
 use il_core::Place;
 use il_edge::{Failed, Sink};
 

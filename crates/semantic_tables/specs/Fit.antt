@@ -1,6 +1,6 @@
 -- The literals of a row are such as a least input is looked for: each is over the places there are, and has the form of a literal of a region
 -- within its size.
-use Rattle.std.specs.Prelude.{ℕ, List, All}
+use Rattle.std.specs.Prelude.{ℕ, All}
 use Rattle.sym_simplify.specs.Literal.{literal_form_of}
 use Rattle.sym_simplify.specs.Easy.{IsKept}
 use Rattle.sym_simplify.specs.Places.{HasLiteralPlacesBelow}

@@ -3,9 +3,13 @@
 //! so that the table says in one look what the lines do (J. C. King, Symbolic execution and program testing, 1976).
 #![tactic(auto)]
 
+mod course;
+mod environment;
 mod laws;
 mod making;
+mod prefix;
 mod row;
+mod walking;
 
 pub use laws::{inputs_have_one_long_row, inputs_have_one_row, one_table};
 pub use making::{long_rows, table};

@@ -11,7 +11,7 @@ use flow_slice::{SlicedProc, slice, slices_are_checked, slices_end_alike};
 use il_core::{CheckedProc, Expr, Line, List, NoMemory, TextEnd};
 use info_flow::relevant;
 use interval_reduce::derive;
-use malpas_suite::accept;
+use acceptance::accept;
 use std::alloc::Global;
 use std::test::Fail;
 

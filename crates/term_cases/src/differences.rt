@@ -6,10 +6,13 @@ ghost use Rattle.difference.specs.Answers.{IsSplit};
 use difference::{
     Constraint, Edge, Range64, Solved, Split, SplitSolved, refute, solve, solve_splits,
 };
-use std::process::Abort;
+use il_core::NoMemory;
+use std::alloc::Global;
 use std::test::Fail;
 
-const LIMIT: i128 = 1 << 101;
+const WIDEST: i128 = 1 << 101;
+
+const NARROWEST: i128 = -(1 << 101);
 
 fn below(left: Option<usize>, right: Option<usize>, bound: i128) -> Constraint {
     Constraint { left, right, bound }
@@ -64,93 +67,131 @@ fn are_splits(count: usize, splits: &[Split]) -> bool
     splits.iter().all(|split| is_given(count, &split.low) && is_given(count, &split.high))
 }
 
+/// Constraints, each with its sides and its bound.
+fn constraints_of(
+    alloc: Global,
+    rows: &[(Option<usize>, Option<usize>, i128)],
+) -> Result<Vec<Constraint>, NoMemory> {
+    let mut constraints = Vec::new(alloc);
+    for (left, right, bound) in rows {
+        constraints.push(below(*left, *right, *bound))?;
+    }
+    Ok(constraints)
+}
+
+/// The ranges of the unknowns, constraints, and the least solution, if any.
+type Case<'a> = (
+    &'a str,
+    &'a [Range64],
+    &'a [(Option<usize>, Option<usize>, i128)],
+    Option<&'a [i64]>,
+);
+
+/// Whether the constraints of a case have its least solution, or else are refuted.
+fn is_as(alloc: Global, case: &Case) -> Result<bool, Fail> {
+    let (_, ranges, rows, wanted) = case;
+    let constraints = constraints_of(alloc, rows)?;
+    if !are_ranges(ranges) || !are_given(ranges.len(), &constraints) {
+        return Err(Fail::from("no case"));
+    }
+    let refuted = refute(alloc, ranges, &constraints)?.is_some();
+    match solve(alloc, ranges, &constraints)? {
+        Solved::Least(values) => Ok(!refuted && *wanted == Some(values.as_slice())),
+        Solved::Cycle(_named) => Ok(refuted && wanted.is_none()),
+    }
+}
+
+/// A range of digits.
+const DIGIT: Range64 = Range64 {
+    least: 0,
+    greatest: 9,
+};
+
+/// All numbers.
+const ANY: Range64 = Range64 {
+    least: i64::MIN,
+    greatest: i64::MAX,
+};
+
+/// The number 7 alone.
+const SEVEN: Range64 = Range64 {
+    least: 7,
+    greatest: 7,
+};
+
 #[test]
 fn solves_and_refutes(rt: HostRuntime) -> Result<(), Fail> {
-    let digits = [range(0, 9), range(0, 9)];
-    let ends = [range(i64::MIN, i64::MAX), range(i64::MIN, i64::MAX)];
-    let single = [range(7, 7), range(0, 9)];
-    let cases: [(&str, &[Range64], &[Constraint], Option<&[i64]>); 12] = [
+    let cases: [Case; 12] = [
         ("no unknown and no constraint", &[], &[], Some(&[])),
-        ("no constraint", &digits, &[], Some(&[0, 0])),
+        ("no constraint", &[DIGIT, DIGIT], &[], Some(&[0, 0])),
         (
             "two constraints",
-            &digits,
-            &[below(Some(0), Some(1), -3), below(Some(1), None, 8)],
+            &[DIGIT, DIGIT],
+            &[(Some(0), Some(1), -3), (Some(1), None, 8)],
             Some(&[0, 3]),
         ),
         (
             "a third that closes a cycle",
-            &digits,
+            &[DIGIT, DIGIT],
             &[
-                below(Some(0), Some(1), -3),
-                below(Some(1), None, 8),
-                below(Some(1), Some(0), 2),
+                (Some(0), Some(1), -3),
+                (Some(1), None, 8),
+                (Some(1), Some(0), 2),
             ],
             None,
         ),
         (
             "an equality",
-            &digits,
-            &[below(Some(0), Some(1), 4), below(Some(1), Some(0), -4)],
+            &[DIGIT, DIGIT],
+            &[(Some(0), Some(1), 4), (Some(1), Some(0), -4)],
             Some(&[4, 0]),
         ),
         (
             "equalities that differ",
-            &digits,
-            &[below(Some(0), None, 3), below(None, Some(0), -4)],
+            &[DIGIT, DIGIT],
+            &[(Some(0), None, 3), (None, Some(0), -4)],
             None,
         ),
         (
             "a range of one value",
-            &single,
-            &[below(Some(0), Some(1), 0)],
+            &[SEVEN, DIGIT],
+            &[(Some(0), Some(1), 0)],
             Some(&[7, 7]),
         ),
         (
             "a range of one value that is too high",
-            &single,
-            &[below(Some(0), Some(1), -3)],
+            &[SEVEN, DIGIT],
+            &[(Some(0), Some(1), -3)],
             None,
         ),
         (
             "the ends of the numbers",
-            &ends,
-            &[below(None, Some(0), -9_223_372_036_854_775_807)],
+            &[ANY, ANY],
+            &[(None, Some(0), -9_223_372_036_854_775_807)],
             Some(&[i64::MAX, i64::MIN]),
         ),
         (
             "one beyond",
-            &ends,
-            &[below(None, Some(0), -9_223_372_036_854_775_808)],
+            &[ANY, ANY],
+            &[(None, Some(0), -9_223_372_036_854_775_808)],
             None,
         ),
         (
             "the widest bound",
-            &ends,
-            &[below(Some(0), Some(1), LIMIT)],
+            &[ANY, ANY],
+            &[(Some(0), Some(1), WIDEST)],
             Some(&[i64::MIN, i64::MIN]),
         ),
         (
             "the narrowest bound",
-            &ends,
-            &[below(Some(0), Some(1), -LIMIT)],
+            &[ANY, ANY],
+            &[(Some(0), Some(1), NARROWEST)],
             None,
         ),
     ];
-    for (name, ranges, constraints, want) in cases {
-        assert!(rt; are_ranges(ranges), "{name}");
-        assert!(rt; are_given(ranges.len(), constraints), "{name}");
-        let refuted = refute(rt.alloc(), ranges, constraints)?;
-        match solve(rt.alloc(), ranges, constraints)? {
-            Solved::Least(values) => {
-                assert!(rt; refuted.is_none(), "{name}");
-                assert_eq!(rt; want, Some(values.as_slice()), "{name}");
-            }
-            Solved::Cycle(_named) => {
-                assert!(rt; refuted.is_some(), "{name}");
-                assert!(rt; want.is_none(), "{name}");
-            }
-        }
+    for case in cases.iter() {
+        let (name, _, _, _) = case;
+        assert!(rt; is_as(rt.alloc(), case)?, "{name}");
     }
     Ok(())
 }
@@ -197,28 +238,36 @@ fn follows_a_long_chain(rt: HostRuntime) -> Result<(), Fail> {
     Ok(())
 }
 
+/// Whether the least solution of these splits of one digit is the wanted one.
+fn is_split_as(alloc: Global, rows: &[(u8, u8)], wanted: Option<&[i64]>) -> Result<bool, Fail> {
+    let mut splits = Vec::new(alloc);
+    for (low, high) in rows {
+        splits.push(split(*low, *high))?;
+    }
+    if !are_splits(1, &splits) || splits.len() > 9 {
+        return Err(Fail::from("no case"));
+    }
+    match solve_splits(alloc, &[DIGIT], &[], &splits)? {
+        SplitSolved::Least(values) => Ok(wanted == Some(values.as_slice())),
+        SplitSolved::Unmet => Ok(wanted.is_none()),
+    }
+}
+
 #[test]
 fn tries_the_low_side_first(rt: HostRuntime) -> Result<(), Fail> {
-    let ranges = [range(0, 9)];
-    let cases: [(&str, &[Split], Option<&[i64]>); 5] = [
+    let cases: [(&str, &[(u8, u8)], Option<&[i64]>); 5] = [
         ("no split", &[], Some(&[0])),
-        ("both sides", &[split(5, 3)], Some(&[5])),
-        ("the low one fails", &[split(10, 3)], Some(&[3])),
+        ("both sides", &[(5, 3)], Some(&[5])),
+        ("the low one fails", &[(10, 3)], Some(&[3])),
         (
             "the low one of the second fails",
-            &[split(1, 2), split(11, 4)],
+            &[(1, 2), (11, 4)],
             Some(&[4]),
         ),
-        ("neither", &[split(1, 2), split(11, 12)], None),
+        ("neither", &[(1, 2), (11, 12)], None),
     ];
-    assert!(rt; are_ranges(&ranges));
-    for (name, splits, want) in cases {
-        assert!(rt; are_splits(1, splits), "{name}");
-        assert!(rt; splits.len() <= 9, "{name}");
-        match solve_splits(rt.alloc(), &ranges, &[], splits)? {
-            SplitSolved::Least(values) => assert_eq!(rt; want, Some(values.as_slice()), "{name}"),
-            SplitSolved::Unmet => assert!(rt; want.is_none(), "{name}"),
-        }
+    for (name, rows, wanted) in cases {
+        assert!(rt; is_split_as(rt.alloc(), rows, wanted)?, "{name}");
     }
     Ok(())
 }

@@ -10,3 +10,5 @@ mod names;
 mod normal_terms;
 #[cfg(test)]
 mod terms;
+#[cfg(test)]
+mod trees;

@@ -3,20 +3,13 @@ ghost use Rattle.std.specs.Prelude.{◌≡◌, ◌<◌, ◌≤◌, ◌^◌, IsTr
 ghost use Rattle.sym_terms.specs.Tree.{tree_of};
 ghost use Rattle.sym_terms.specs.Measure.{weight, depth};
 
+use crate::trees::{plus, times};
 use il_core::{NoMemory, Relation};
 use std::alloc::Global;
 use std::process::Abort;
 use std::test::Fail;
 use sym_simplify::{Atom, FormId, Forms, LinearPart, LitForm, Normal, linear, norm, norm_literal};
 use sym_terms::{Literal, Term};
-
-fn plus(alloc: Global, a: Term, b: Term) -> Result<Term, NoMemory> {
-    Ok(Term::Add(Box::new(alloc, a)?, Box::new(alloc, b)?))
-}
-
-fn times(alloc: Global, a: Term, b: Term) -> Result<Term, NoMemory> {
-    Ok(Term::Mul(Box::new(alloc, a)?, Box::new(alloc, b)?))
-}
 
 fn over(alloc: Global, a: Term, b: Term) -> Result<Term, NoMemory> {
     Ok(Term::Div(Box::new(alloc, a)?, Box::new(alloc, b)?))
@@ -48,10 +41,10 @@ fn weight_of(term: &Term) -> Option<u128>
     match term {
         Term::Num(number) => Some(number.unsigned_abs().max(1)),
         Term::Var(_) => Some(1),
-        Term::Add(a, b) => weight_of(a)?.checked_add(weight_of(b)?),
         Term::Mul(a, b) => weight_of(a)?.checked_mul(weight_of(b)?),
-        Term::Div(a, b) => weight_of(a)?.checked_add(weight_of(b)?),
-        Term::Mod(a, b) => weight_of(a)?.checked_add(weight_of(b)?),
+        Term::Add(a, b) | Term::Div(a, b) | Term::Mod(a, b) => {
+            weight_of(a)?.checked_add(weight_of(b)?)
+        }
     }
 }
 
@@ -97,21 +90,32 @@ fn is_place(normal: &Normal, place: usize) -> bool {
     }
 }
 
+/// `3 * (x + 2)`.
+fn multiple(alloc: Global) -> Result<Term, NoMemory> {
+    let sum = plus(alloc, Term::Var(3), Term::Num(2))?;
+    times(alloc, Term::Num(3), sum)
+}
+
+/// Whether the normal term of a light term has this constant and so many parts.
+fn has_parts(alloc: Global, term: &Term, constant: i128, parts: usize) -> Result<bool, Fail> {
+    if !is_light(term) {
+        return Err(Fail::from("heavy"));
+    }
+    let normal = norm(alloc, term)?;
+    Ok(normal.constant == constant && normal.parts.len() == parts)
+}
+
 #[test]
 fn sums_cancel_and_quotients_do_not(rt: HostRuntime) -> Result<(), Fail> {
-    let alloc = rt.alloc();
-    let sum = plus(alloc, Term::Var(3), Term::Num(2))?;
-    let cases: [(&str, Term, i128, usize); 3] = [
-        ("a sum that cancels", two(alloc)?, 2, 0),
-        ("a quotient times its divisor", uncancelled(alloc)?, 0, 1),
-        ("a multiple", times(alloc, Term::Num(3), sum)?, 6, 1),
-    ];
-    for (name, term, constant, parts) in cases {
-        assert!(rt; is_light(&term), "{name}");
-        let normal = norm(alloc, &term)?;
-        assert_eq!(rt; normal.constant, constant, "{name}");
-        assert_eq!(rt; normal.parts.len(), parts, "{name}");
-    }
+    let sum = two(rt.alloc())?;
+    assert!(rt; has_parts(rt.alloc(), &sum, 2, 0)?, "a sum that cancels");
+    let product = uncancelled(rt.alloc())?;
+    assert!(rt;
+        has_parts(rt.alloc(), &product, 0, 1)?,
+        "a quotient times its divisor"
+    );
+    let product = multiple(rt.alloc())?;
+    assert!(rt; has_parts(rt.alloc(), &product, 6, 1)?, "a multiple");
     Ok(())
 }
 
@@ -138,29 +142,45 @@ fn equal_normal_terms_have_one_number(rt: HostRuntime) -> Result<(), Fail> {
     Ok(())
 }
 
-#[test]
-fn literals_and_linear_terms(rt: HostRuntime) -> Result<(), Fail> {
-    let alloc = rt.alloc();
-    let literal = Literal {
-        left: plus(alloc, Term::Var(0), Term::Num(3))?,
+/// `x + 3 < 2 * x`.
+fn growing(alloc: Global) -> Result<Literal, NoMemory> {
+    let left = plus(alloc, Term::Var(0), Term::Num(3))?;
+    let right = times(alloc, Term::Num(2), Term::Var(0))?;
+    Ok(Literal {
+        left,
         relation: Relation::Lt,
-        right: times(alloc, Term::Num(2), Term::Var(0))?,
-    };
+        right,
+    })
+}
+
+#[test]
+fn a_literal_keeps_one_side(rt: HostRuntime) -> Result<(), Fail> {
+    let literal = growing(rt.alloc())?;
     assert!(rt; is_light(&literal.left) && is_light(&literal.right));
-    let kept = match norm_literal(alloc, &literal)? {
+    let kept = match norm_literal(rt.alloc(), &literal)? {
         LitForm::Keep(kept) => is_place(&kept.sum, 0)
             && kept.relation == Relation::Gt
             && kept.bound == 3,
         LitForm::Always | LitForm::Never => false,
     };
     assert!(rt; kept, "x + 3 < 2 * x is x > 3");
-    let term = minus(
+    Ok(())
+}
+
+/// `1 + x - y`.
+fn apart(alloc: Global) -> Result<Term, NoMemory> {
+    minus(
         alloc,
         plus(alloc, Term::Num(1), Term::Var(0))?,
         Term::Var(1),
-    )?;
+    )
+}
+
+#[test]
+fn a_product_is_not_linear(rt: HostRuntime) -> Result<(), Fail> {
+    let term = apart(rt.alloc())?;
     assert!(rt; is_light(&term));
-    let places = match linear(alloc, &term)? {
+    let places = match linear(rt.alloc(), &term)? {
         Some(found) => {
             let second = LinearPart {
                 coefficient: -1,
@@ -171,8 +191,8 @@ fn literals_and_linear_terms(rt: HostRuntime) -> Result<(), Fail> {
         None => false,
     };
     assert!(rt; places, "1 + x - y");
-    let product = uncancelled(alloc)?;
+    let product = uncancelled(rt.alloc())?;
     assert!(rt; is_light(&product));
-    assert!(rt; linear(alloc, &product)?.is_none());
+    assert!(rt; linear(rt.alloc(), &product)?.is_none());
     Ok(())
 }

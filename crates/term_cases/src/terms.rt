@@ -4,6 +4,7 @@ ghost use Rattle.sym_terms.specs.Tree.{tree_of};
 ghost use Rattle.sym_terms.specs.Substitution.{HasPlacesBelow};
 ghost use Rattle.sym_terms.specs.Measure.{IsCapped};
 
+use crate::trees::{plus, times};
 use il_core::NoMemory;
 use std::alloc::Global;
 use std::process::Abort;
@@ -11,14 +12,6 @@ use std::test::Fail;
 use sym_terms::{
     DEPTH_CAP, Env, NODE_CAP, Pool, Term, TermId, TermMeasure, TermNode, WEIGHT_CAP, measure, subst,
 };
-
-fn plus(alloc: Global, a: Term, b: Term) -> Result<Term, NoMemory> {
-    Ok(Term::Add(Box::new(alloc, a)?, Box::new(alloc, b)?))
-}
-
-fn times(alloc: Global, a: Term, b: Term) -> Result<Term, NoMemory> {
-    Ok(Term::Mul(Box::new(alloc, a)?, Box::new(alloc, b)?))
-}
 
 fn has_places_below(term: &Term, count: usize) -> bool
     ensures { IsTrue result → HasPlacesBelow count (tree_of term.now) }
@@ -140,18 +133,30 @@ fn measures_stop_at_their_caps(rt: HostRuntime) -> Result<(), Fail> {
     Ok(())
 }
 
+/// The number of the tree in which `env` stands for the place of a term; `None` where it has other places.
+fn replaced_apart(
+    alloc: Global,
+    pool: &mut Pool,
+    term: &Term,
+    env: &Term,
+) -> Result<Option<TermId>, NoMemory> {
+    if !has_places_below(term, 1) {
+        return Ok(None);
+    }
+    let mut places = Env::start(alloc, 1)?;
+    places.set(0, env.copied(alloc)?);
+    let replaced = subst(alloc, term, &places)?;
+    Ok(Some(pool.put_term(&replaced)?))
+}
+
 #[test]
 fn substitution_in_a_pool_is_that_of_trees(rt: HostRuntime) -> Result<(), Fail> {
-    let alloc = rt.alloc();
-    let mut pool = Pool::new(alloc)?;
-    let product = times(alloc, Term::Var(0), Term::Var(0))?;
-    let next = plus(alloc, Term::Var(0), Term::Num(1))?;
-    let mut env = Env::start(alloc, 1)?;
-    env.set(0, next.copied(alloc)?);
-    assert!(rt; has_places_below(&product, 1));
-    let squared = subst(alloc, &product, &env)?;
-    let want = pool.put_term(&squared)?;
-    assert_eq!(rt; replaced_in(&mut pool, &product, &next)?, Some(want));
-    assert_eq!(rt; pool.len(), 5);
+    let mut pool = Pool::new(rt.alloc())?;
+    let product = times(rt.alloc(), Term::Var(0), Term::Var(0))?;
+    let next = plus(rt.alloc(), Term::Var(0), Term::Num(1))?;
+    let want = replaced_apart(rt.alloc(), &mut pool, &product, &next)?;
+    assert!(rt; want.is_some());
+    assert!(rt; replaced_in(&mut pool, &product, &next)? == want);
+    assert!(rt; pool.len() == 5);
     Ok(())
 }

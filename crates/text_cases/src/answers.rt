@@ -1,7 +1,7 @@
 //! What no clause says: that the definitions mean the rules of the text language, and that a call succeeds.
 use crate::written::{COPY, VALVE};
+use acceptance::{accept, one_answer};
 use il_core::{Code, Many, Name, Refusal, TextEnd};
-use malpas_suite::{accept, one_answer};
 use std::alloc::{AllocError, Global};
 use std::test::Fail;
 

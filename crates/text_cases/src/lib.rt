@@ -9,4 +9,7 @@ mod reports;
 #[cfg(test)]
 mod sections;
 #[cfg(test)]
+mod tables;
+#[cfg(test)]
+#[cfg(test)]
 mod written;

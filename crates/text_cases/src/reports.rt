@@ -1,7 +1,8 @@
 //! The lines of refusals, and the head and the end of a report.
 use il_core::{Code, List, Many, Name, Refusal};
 use il_edge::SureSink;
-use report_text::{Report, put_end, put_head, put_refusal, status_of};
+use report::{Report, status_of};
+use report_text::{put_end, put_head, put_refusal};
 use std::test::Fail;
 
 fn refusal(code: Code, place: usize, name: Option<Name>) -> Refusal {

@@ -7,7 +7,8 @@ use il_edge::SureSink;
 use info_flow::FlowRow;
 use interval_reduce::{Derivation, Interval};
 use path_expr::{Def, PathReport, Ref};
-use report_text::{Analyses, ProcReport, Selection, put_part};
+use report::{Analyses, ProcReport};
+use report_text::{Selection, put_part};
 use std::alloc::Global;
 use std::test::Fail;
 
@@ -78,7 +79,8 @@ fn untold(alloc: Global) -> Analyses {
         },
         usage: List::new(alloc),
         flows: List::new(alloc),
-        row: None,
+        tables: List::new(alloc),
+        threats: List::new(alloc),
     }
 }
 
@@ -166,13 +168,13 @@ fn writes_the_part_of_an_irreducible_procedure(rt: HostRuntime) -> Result<(), Fa
         flow: false,
         paths: true,
         semantic: true,
-        compliance: false,
+        compliance: true,
     };
-    let mut sink = SureSink::new(rt.alloc(), 300)?;
+    let mut sink = SureSink::new(rt.alloc(), 400)?;
     put_part(&part, selection, &mut sink)?;
     assert_eq!(rt;
         sink.held(),
-        b"PROCEDURE Hold LINES 6\nCONTROL\nUNREACHABLE -\nSTUCK L4 L5\nSHAPE TWO ENTRIES\nCYCLE L2 L3\nFIRST L0 L1 L2\nSECOND L0 L1 L3\nUSE\nNOT REPORTED IRREDUCIBLE\nPATHS\nNOT REPORTED IRREDUCIBLE\n".as_slice()
+        b"PROCEDURE Hold LINES 6\nCONTROL\nUNREACHABLE -\nSTUCK L4 L5\nSHAPE TWO ENTRIES\nCYCLE L2 L3\nFIRST L0 L1 L2\nSECOND L0 L1 L3\nUSE\nNOT REPORTED IRREDUCIBLE\nPATHS\nNOT REPORTED IRREDUCIBLE\nSEMANTIC\nNOT REPORTED IRREDUCIBLE\nCOMPLIANCE\nNOT REPORTED IRREDUCIBLE\n".as_slice()
     );
     Ok(())
 }
@@ -269,24 +271,6 @@ fn writes_the_paths(rt: HostRuntime) -> Result<(), Fail> {
     assert_eq!(rt;
         sink.held(),
         b"PROCEDURE p LINES 9\nPATHS\nALL = 0\n".as_slice()
-    );
-    Ok(())
-}
-
-#[test]
-fn writes_the_table(rt: HostRuntime) -> Result<(), Fail> {
-    let b = Name::new(b"b").ok_or("no name")?;
-    let part = part_of(rt.alloc(), &[place(b, false), place(b, true)])?;
-    let mut told = untold(rt.alloc());
-    told.row = Some(List::from_vec(vec![in rt.alloc(); 1, 1]?));
-    let selection = Selection {
-        semantic: true,
-        ..NOTHING
-    };
-    let sink = text_of(&rt, part, told, selection)?;
-    assert_eq!(rt;
-        sink.held(),
-        b"PROCEDURE p LINES 9\nSEMANTIC\nREGION L0\nROW 1 PATH -\nSTOP END\nb := OLD b\n".as_slice()
     );
     Ok(())
 }

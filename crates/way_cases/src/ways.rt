@@ -3,7 +3,7 @@ ghost use Rattle.std.specs.Prelude.{◌≤ℤ◌, IsTrue};
 ghost use Rattle.il_core.specs.Run.{IsInRange};
 
 use il_core::{CheckedProc, Halt, Next, Place, Relation};
-use malpas_suite::accept;
+use acceptance::accept;
 use std::alloc::{AllocError, Global};
 use std::test::Fail;
 use sym_terms::{Literal, Term};

@@ -1,6 +1,6 @@
 use Rattle.std.proofs.Common.{◌≡◌, ◌+◌, length, refl, ap, ◌∙◌, arith}
 use Rattle.std.proofs.lemmas.List.{length_push}
-use Rattle.malpas.proofs.Told.{told_none, told_next}
+use Rattle.report.proofs.Fronts.{told_none, told_next}
 use Rattle.malpas.proofs.Sent.{sent_none, sent_more, cut_in}
 use Rattle.malpas.proofs.reporting.write_parts.Goals as goal
 

@@ -1,7 +1,7 @@
 use Rattle.std.proofs.Common.{◌≡◌, ◌+◌, arith}
 use Rattle.report_text.specs.Sections.{level_text}
-use Rattle.report_text.proofs.Written.{numbered_next, prefix_numbered}
-use Rattle.report_text.proofs.Steps.{so_far_more}
+use Rattle.form_text.proofs.Written.{numbered_next, prefix_numbered}
+use Rattle.form_text.proofs.Steps.{so_far_more}
 use Rattle.report_text.proofs.control.put_levels.Goals as goal
 
 pub returns-in-Err-clause-text : goal.returns-in-Err-clause-text

@@ -1,7 +1,7 @@
 use Rattle.std.proofs.Common.{take}
-use Rattle.report_text.specs.Lists.{numbered}
+use Rattle.form_text.specs.Lists.{numbered}
 use Rattle.report_text.specs.Sections.{level_text}
-use Rattle.report_text.proofs.Written.{IsSoFar}
+use Rattle.form_text.proofs.Written.{IsSoFar}
 use Rattle.report_text.proofs.control.put_levels.Given as goal
 
 abbrev pub invariant-loop-at : goal.invariant-loop-at

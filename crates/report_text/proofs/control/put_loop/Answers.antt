@@ -1,6 +1,6 @@
 use Rattle.std.proofs.Common.{append_assoc}
 use Rattle.report_text.specs.Sections.{loop_text}
-use Rattle.report_text.proofs.Written.{prefix_more, prefix_behind, writes_behind, writes_failed}
+use Rattle.form_text.proofs.Written.{prefix_more, prefix_behind, writes_behind, writes_failed}
 use Rattle.report_text.proofs.control.put_loop.Goals as goal
 
 pub returns-in_err-put_line-clause-text : goal.returns-in_err-put_line-clause-text

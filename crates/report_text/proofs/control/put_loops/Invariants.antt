@@ -1,7 +1,7 @@
 use Rattle.std.proofs.Common.{take}
 use Rattle.std.specs.List.{flat_map}
 use Rattle.report_text.specs.Sections.{loop_text}
-use Rattle.report_text.proofs.Written.{IsSoFar}
+use Rattle.form_text.proofs.Written.{IsSoFar}
 use Rattle.report_text.proofs.control.put_loops.Given as goal
 
 abbrev pub invariant-loop-info : goal.invariant-loop-info

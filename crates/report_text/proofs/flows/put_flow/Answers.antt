@@ -1,9 +1,9 @@
 use Rattle.std.proofs.Common.{◌≡◌, ◌++◌, codes, List, append_assoc}
 use Rattle.il_core.specs.declared.line.Place.{Place}
 use Rattle.info_flow.specs.declared.row.FlowRow.{FlowRow}
-use Rattle.report_text.specs.Lists.{lines_text, names_text, place_at}
+use Rattle.form_text.specs.Lists.{lines_text, names_text, place_at}
 use Rattle.report_text.specs.Sections.{flow_text}
-use Rattle.report_text.proofs.Written.{prefix_more, writes_behind, writes_failed}
+use Rattle.form_text.proofs.Written.{prefix_more, writes_behind, writes_failed}
 use Rattle.report_text.proofs.flows.put_flow.Goals as goal
 
 -- The line of a variable in its five parts.

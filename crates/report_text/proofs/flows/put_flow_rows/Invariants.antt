@@ -1,7 +1,7 @@
 use Rattle.std.proofs.Common.{take}
 use Rattle.std.specs.List.{flat_map}
 use Rattle.report_text.specs.Sections.{flow_text}
-use Rattle.report_text.proofs.Written.{IsSoFar}
+use Rattle.form_text.proofs.Written.{IsSoFar}
 use Rattle.report_text.proofs.flows.put_flow_rows.Given as goal
 
 abbrev pub invariant-loop-row : goal.invariant-loop-row

@@ -1,5 +1,5 @@
 use Rattle.std.proofs.Common.{append-nil}
-use Rattle.report_text.proofs.Written.{prefix_more, writes_behind, writes_failed}
+use Rattle.form_text.proofs.Written.{prefix_more, writes_behind, writes_failed}
 use Rattle.report_text.proofs.lists.put_labelled.Goals as goal
 
 pub returns-in_err-put-clause-text : goal.returns-in_err-put-clause-text

@@ -1,5 +1,5 @@
-use Rattle.report_text.specs.Lists.{lines_text}
-use Rattle.report_text.proofs.Written.{prefix_more, writes_behind, writes_failed}
+use Rattle.form_text.specs.Lists.{lines_text}
+use Rattle.form_text.proofs.Written.{prefix_more, writes_behind, writes_failed}
 use Rattle.report_text.proofs.lists.put_lines.Goals as goal
 
 pub returns-in_err-put_line-in-Some-clause-text : goal.returns-in_err-put_line-in-Some-clause-text

@@ -1,6 +1,6 @@
 use Rattle.std.proofs.Common.{ℕ, codes, ◌++◌}
-use Rattle.report_text.specs.Lists.{line_text}
-use Rattle.report_text.proofs.Written.{prefix_among}
+use Rattle.form_text.specs.Lists.{line_text}
+use Rattle.form_text.proofs.Written.{prefix_among}
 use Rattle.report_text.proofs.lists.put_other_lines.Goals as goal
 
 pub returns-in-Err-clause-text : goal.returns-in-Err-clause-text

@@ -1,6 +1,6 @@
 use Rattle.std.proofs.Common.{ℕ, codes, ◌++◌}
-use Rattle.report_text.specs.Lists.{place_at}
-use Rattle.report_text.proofs.Written.{prefix_among}
+use Rattle.form_text.specs.Lists.{place_at}
+use Rattle.form_text.proofs.Written.{prefix_among}
 use Rattle.report_text.proofs.lists.put_other_names.Goals as goal
 
 pub returns-in-Err-clause-text : goal.returns-in-Err-clause-text

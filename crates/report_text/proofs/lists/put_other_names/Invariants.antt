@@ -1,7 +1,7 @@
 use Rattle.std.proofs.Common.{take, codes, ◌++◌}
 use Rattle.std.specs.List.{flat_map}
-use Rattle.report_text.specs.Lists.{place_at}
-use Rattle.report_text.proofs.Written.{IsSoFar}
+use Rattle.form_text.specs.Lists.{place_at}
+use Rattle.form_text.proofs.Written.{IsSoFar}
 use Rattle.report_text.proofs.lists.put_other_names.Given as goal
 
 abbrev pub invariant-loop-at : goal.invariant-loop-at

@@ -1,6 +1,6 @@
 use Rattle.std.proofs.Common.{append_assoc}
 use Rattle.report_text.specs.Report.{part_text}
-use Rattle.report_text.proofs.Written.{prefix_more, prefix_behind, writes_behind, writes_failed}
+use Rattle.form_text.proofs.Written.{prefix_more, prefix_behind, writes_behind, writes_failed}
 use Rattle.report_text.proofs.part.put_part.Goals as goal
 
 pub returns-in_err-put_title-clause-text : goal.returns-in_err-put_title-clause-text
@@ -23,6 +23,10 @@ pub returns-in_err-put_chosen_paths-clause-text : goal.returns-in_err-put_chosen
 unfolding part_text
 returns-in_err-put_chosen_paths-clause-text g c = simp append_assoc (writes_failed _ _ _ _ c.from_residual-in_err-put_chosen_paths.ensures.0 (prefix_behind _ _ _ _ _ c.in_ok-put_title.ensures.text (prefix_behind _ _ _ _ _ c.in_ok-put_chosen_control.ensures.text (prefix_behind _ _ _ _ _ c.in_ok-put_chosen_usage.ensures.text (prefix_behind _ _ _ _ _ c.in_ok-put_chosen_flow.ensures.text (prefix_more _ _ _ _ c.in_err-put_chosen_paths.ensures.text))))))
 
+pub returns-in_err-put_chosen_semantic-clause-text : goal.returns-in_err-put_chosen_semantic-clause-text
+unfolding part_text
+returns-in_err-put_chosen_semantic-clause-text g c = simp append_assoc (writes_failed _ _ _ _ c.from_residual-in_err-put_chosen_semantic.ensures.0 (prefix_behind _ _ _ _ _ c.in_ok-put_title.ensures.text (prefix_behind _ _ _ _ _ c.in_ok-put_chosen_control.ensures.text (prefix_behind _ _ _ _ _ c.in_ok-put_chosen_usage.ensures.text (prefix_behind _ _ _ _ _ c.in_ok-put_chosen_flow.ensures.text (prefix_behind _ _ _ _ _ c.in_ok-put_chosen_paths.ensures.text (prefix_more _ _ _ _ c.in_err-put_chosen_semantic.ensures.text)))))))
+
 pub returns-clause-text : goal.returns-clause-text
 unfolding part_text
-returns-clause-text g c = simp append_assoc (writes_behind _ _ _ _ _ _ c.in_ok-put_title.ensures.text (writes_behind _ _ _ _ _ _ c.in_ok-put_chosen_control.ensures.text (writes_behind _ _ _ _ _ _ c.in_ok-put_chosen_usage.ensures.text (writes_behind _ _ _ _ _ _ c.in_ok-put_chosen_flow.ensures.text (writes_behind _ _ _ _ _ _ c.in_ok-put_chosen_paths.ensures.text c.put_chosen_semantic.ensures.text)))))
+returns-clause-text g c = simp append_assoc (writes_behind _ _ _ _ _ _ c.in_ok-put_title.ensures.text (writes_behind _ _ _ _ _ _ c.in_ok-put_chosen_control.ensures.text (writes_behind _ _ _ _ _ _ c.in_ok-put_chosen_usage.ensures.text (writes_behind _ _ _ _ _ _ c.in_ok-put_chosen_flow.ensures.text (writes_behind _ _ _ _ _ _ c.in_ok-put_chosen_paths.ensures.text (writes_behind _ _ _ _ _ _ c.in_ok-put_chosen_semantic.ensures.text c.put_chosen_compliance.ensures.text))))))

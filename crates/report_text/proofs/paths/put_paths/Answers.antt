@@ -1,9 +1,9 @@
 use Rattle.std.proofs.Common.{◌≡◌, ◌++◌, codes, List, append_assoc}
 use Rattle.flow_graph.specs.declared.graph.Arc.{Arc}
 use Rattle.path_expr.specs.declared.report.PathReport.{PathReport}
-use Rattle.report_text.specs.Lists.{numbered}
+use Rattle.form_text.specs.Lists.{numbered}
 use Rattle.report_text.specs.Sections.{paths_text, arc_text, def_text, ref_text}
-use Rattle.report_text.proofs.Written.{prefix_more, writes_behind, writes_failed}
+use Rattle.form_text.proofs.Written.{prefix_more, writes_behind, writes_failed}
 use Rattle.report_text.proofs.paths.put_paths.Goals as goal
 
 -- The section on paths in its four parts.

@@ -1,5 +1,5 @@
 use Rattle.report_text.specs.Sections.{usage_text}
-use Rattle.report_text.proofs.Written.{prefix_more, writes_behind, writes_failed}
+use Rattle.form_text.proofs.Written.{prefix_more, writes_behind, writes_failed}
 use Rattle.report_text.proofs.usage.put_usage.Goals as goal
 
 pub returns-in_err-put-clause-text : goal.returns-in_err-put-clause-text

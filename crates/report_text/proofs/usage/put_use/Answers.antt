@@ -1,7 +1,7 @@
 use Rattle.std.proofs.Common.{◌≡◌, ◌++◌, ℕ, codes, List, append_assoc}
 use Rattle.data_use.specs.declared.row.UseRow.{UseRow}
 use Rattle.il_core.specs.declared.line.Place.{Place}
-use Rattle.report_text.specs.Lists.{place_at}
+use Rattle.form_text.specs.Lists.{place_at}
 use Rattle.report_text.specs.Sections.{use_text, yes}
 use Rattle.report_text.proofs.usage.put_use.Goals as goal
 

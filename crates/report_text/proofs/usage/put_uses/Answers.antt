@@ -1,5 +1,5 @@
 use Rattle.report_text.specs.Sections.{use_text}
-use Rattle.report_text.proofs.Written.{prefix_among}
+use Rattle.form_text.proofs.Written.{prefix_among}
 use Rattle.report_text.proofs.usage.put_uses.Goals as goal
 
 pub returns-in-Err-clause-text : goal.returns-in-Err-clause-text

@@ -1,0 +1,4 @@
+use Rattle.compliance.proofs.opening.+left_behind.Given as goal
+
+abbrev pub decreases-left_behind : goal.decreases-left_behind
+decreases-left_behind l = l.id

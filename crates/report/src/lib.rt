@@ -1,0 +1,13 @@
+//! What the suite answers about a text: the types of a report, what it is to be the report of a text, and what such a
+//! report says of the runs of its procedures. How it is found and how it is written are matters of other crates.
+//!
+//! A report has a part for each procedure. Of a reducible one it tells the paths, the use of variables, the flow of
+//! information, a table for each region and the threats; of any other one the control structure alone. [`status_of`]
+//! tells whether anything is left to look at. It takes no memory and costs time linear in the tables and threats.
+#![tactic(auto)]
+
+mod report;
+mod status;
+
+pub use report::{Analyses, ProcReport, RegionTable, Report};
+pub use status::status_of;

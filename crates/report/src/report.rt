@@ -1,0 +1,63 @@
+use compliance::Threat;
+use control_flow::Control;
+use data_use::UseRow;
+use flow_graph::Arc;
+use il_core::{List, Name, Place};
+use info_flow::FlowRow;
+use interval_reduce::Derivation;
+use path_expr::PathReport;
+use semantic_tables::TableOr;
+
+/// The table of a region.
+#[derive(Drop)]
+pub struct RegionTable {
+    /// The first line of the region: 0 or a loop head.
+    pub pc: usize,
+    /// Its rows, or the first limit that the region passes.
+    pub body: TableOr,
+}
+
+/// What is told of a reducible procedure alone.
+#[derive(Drop)]
+pub struct Analyses {
+    /// All paths from line 0 to the last line.
+    pub paths: PathReport,
+    /// How each variable is used, in the order of the places.
+    pub usage: List<UseRow>,
+    /// What the final value of each variable rests on, in the order of the places.
+    pub flows: List<FlowRow>,
+    /// The table of each region, by their first lines.
+    pub tables: List<RegionTable>,
+    /// The threats of all regions within their size, in order, each with its verdict.
+    pub threats: List<Threat>,
+}
+
+/// The report of one procedure.
+#[derive(Drop)]
+pub struct ProcReport {
+    /// The procedure's name.
+    pub name: Name,
+    /// Its places: its variables, then the OLD copies of its INOUT variables.
+    pub places: List<Place>,
+    /// The number of its lines.
+    pub lines: usize,
+    /// The arcs of its graph, which are numbered from 1.
+    pub arcs: List<Arc>,
+    /// Its control structure.
+    pub control: Control,
+    /// Its reduction by intervals.
+    pub derivation: Derivation,
+    /// The other analyses, exactly where it is reducible.
+    pub analyses: Option<Analyses>,
+}
+
+/// The report of a text, or of its first procedures.
+#[derive(Drop)]
+pub struct Report {
+    /// The profile of the text, 1 or 2.
+    pub profile: u8,
+    /// The title of the text.
+    pub title: Name,
+    /// The reports of its procedures, in their order.
+    pub procs: List<ProcReport>,
+}

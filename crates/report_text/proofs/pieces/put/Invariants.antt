@@ -1,9 +1,0 @@
-use Rattle.std.proofs.Common.{take}
-use Rattle.report_text.specs.Pieces.{joined}
-use Rattle.report_text.proofs.Written.{IsSoFar}
-use Rattle.report_text.proofs.pieces.put.Given as goal
-
-abbrev pub invariant-loop-piece : goal.invariant-loop-piece
-invariant-loop-piece g l =
-    IsSoFar (g.K.Sink.held l.fn.sink) (g.K.Sink.held l.sink) (g.K.Sink.settled l.fn.sink) (g.K.Sink.settled l.sink)
-    (g.K.Sink.faults l.fn.sink) (g.K.Sink.faults l.sink) (joined (take l.piece-index l.pieces))

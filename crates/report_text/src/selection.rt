@@ -1,0 +1,16 @@
+/// The sections of a report that are to be written.
+#[derive(Clone, Copy, PartialEq, Eq)]
+pub struct Selection {
+    /// The control structure and its reduction.
+    pub control: bool,
+    /// The use of variables.
+    pub usage: bool,
+    /// The flow of information.
+    pub flow: bool,
+    /// The path expression.
+    pub paths: bool,
+    /// The tables of the regions.
+    pub semantic: bool,
+    /// The threats, with their verdicts.
+    pub compliance: bool,
+}

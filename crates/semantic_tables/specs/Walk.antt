@@ -1,0 +1,211 @@
+-- A walk down the tree of a region: which tree stands behind a way, what the terms and the literals so far stand for, and which rows it adds.
+use Rattle.std.specs.Prelude.{◌≡◌, ◌⊎◌, ◌<◌, ◌≤◌, ◌^◌, ◌+◌, ◌-◌, ℕ, suc, Bool, true, false, Option, Some, None, List, [], ◌∷◌, ◌++◌, map, length, drop, slice_get}
+use Rattle.il_core.specs.Checked.{procedure_of, IsChecked}
+use Rattle.il_core.specs.Procedure.{Procedure}
+use Rattle.il_core.specs.declared.line.Next.{Next}
+use Rattle.il_core.specs.declared.line.Place.{Place}
+use Rattle.il_core.specs.declared.line.Stop.TheVariants as stop
+use Rattle.control_flow.specs.declared.control.LoopInfo.{LoopInfo}
+use Rattle.sym_terms.specs.Tree.{Tree}
+use Rattle.sym_terms.specs.Measure.{weight, depth}
+use Rattle.sym_terms.specs.Substitution.{substituted}
+use Rattle.sym_terms.specs.Comparison.{Comparison, comparison_under, comparison_weight, ComparesPlacesBelow}
+use Rattle.sym_terms.specs.Nodes.{tree_at, terms_of, AreWithin}
+use Rattle.sym_terms.specs.Places.{HavePlacesBelow}
+use Rattle.sym_terms.specs.declared.node.TermId.{TermId}
+use Rattle.sym_terms.specs.declared.node.TermNode.{TermNode}
+use Rattle.sym_simplify.specs.Norm.{norm}
+use Rattle.sym_simplify.specs.Literal.{LiteralForm, literal_form_of}
+use Rattle.sym_simplify.specs.Easy.{IsKept}
+use Rattle.sym_simplify.specs.declared.normal.LitForm.{LitForm}
+use Rattle.path_inputs.specs.Least.{IsPlainlyRefuted}
+use Rattle.test_graph.specs.Decision.{Change, Decision}
+use Rattle.test_graph.specs.Way.{changed}
+use Rattle.test_graph.specs.Places.{DecidesPlacesBelow}
+use Rattle.test_graph.specs.Lowered.{Unfolds, IsLowered}
+use Rattle.region_paths.specs.Region.{leading_of}
+use Rattle.region_paths.specs.Listing.{RegionPath}
+use Rattle.region_paths.specs.PathTree.{PathTree, fork, change, stops, grafted, below, passed, tree_to, leading_tree}
+use Rattle.region_paths.specs.Walk.{LeadInside}
+use Rattle.semantic_tables.specs.Row.{NormalRow, row_of, comparison_form, forms_of}
+use Rattle.semantic_tables.specs.Table.{IsTable, IsLongTable}
+use Rattle.semantic_tables.specs.declared.row.Row.{Row}
+use Rattle.semantic_tables.specs.declared.row.TableOr.{TableOr}
+use Rattle.semantic_tables.specs.declared.prefix.Sides.{Sides}
+use Rattle.semantic_tables.specs.declared.prefix.Prefix.{Prefix}
+use Rattle.semantic_tables.specs.declared.course.Ground.{Ground}
+use Rattle.semantic_tables.specs.declared.course.Course.{Course}
+use Rattle.semantic_tables.specs.declared.course.Course.TheVariants.{Region, Leading}
+use Rattle.semantic_tables.specs.declared.course.Onward.{Onward}
+use Rattle.semantic_tables.specs.declared.course.Onward.TheVariants.{Stops, On}
+
+abbrev pub ground_procedure : Ground → Procedure
+ground_procedure g = procedure_of g.proc.now
+
+-- a lowered graph and the loops of a checked procedure
+pub record IsGround (g : Ground) : Type 0 where
+  pub checked : IsChecked (ground_procedure g)
+  pub lowered : IsLowered (ground_procedure g) g.graph.now
+  pub leading : LeadInside (ground_procedure g) g.loops.now
+
+-- the tree at a head: long paths go on through its leading assertions
+abbrev pub head_tree : Procedure → List LoopInfo → Bool → ℕ → PathTree
+head_tree p loops true = λ q. leading_tree p q (leading_of loops q)
+head_tree p loops false = λ q. stops (stop.Head q)
+
+abbrev pub head_in : Option LoopInfo → ℕ
+head_in None = 0
+head_in (Some l) = l.head
+
+abbrev pub leading_in : Option LoopInfo → List ℕ
+leading_in None = []
+leading_in (Some l) = l.leading
+
+-- the tree behind a way of a line of the region, or of a leading assertion
+abbrev pub behind : Procedure → List LoopInfo → Bool → Course → Next → PathTree
+behind p loops long (Region room) = below loops (head_tree p loops long) (λ q. tree_to p loops (head_tree p loops long) room q)
+behind p loops long (Leading at from) = passed (leading_tree p (head_in (slice_get loops at)) (drop from (leading_in (slice_get loops at))))
+
+-- these decisions, with the tree behind each of their ways
+abbrev pub tree_from : Ground → Course → Decision → PathTree
+tree_from g course d = grafted (behind (ground_procedure g) g.loops.now g.long course) d
+
+abbrev pub IsCourse : List LoopInfo → Course → Type 0
+IsCourse loops (Region room) = Unit {0}
+IsCourse loops (Leading at from) = at < length loops
+
+abbrev pub leading_lines : List LoopInfo → ℕ
+leading_lines [] = 0
+leading_lines (l ∷ loops) = length l.leading + leading_lines loops
+
+-- as many lines as are left at most
+abbrev pub lines_left : List LoopInfo → Course → ℕ
+lines_left loops (Region room) = suc room + leading_lines loops
+lines_left loops (Leading at from) = length (leading_in (slice_get loops at)) - from
+
+-- decisions at a node below which this tree stands, with fewer lines left
+pub record IsOnward (g : Ground) (left : ℕ) (tree : PathTree) (id : ℕ) (course : Course) : Type 0 where
+  pub course_there : IsCourse g.loops.now course
+  pub fewer : lines_left g.loops.now course < left
+  pub decision : Decision
+  pub unfolds : Unfolds g.graph.now.nodes g.graph.now.entries id decision
+  pub places : DecidesPlacesBelow (length (ground_procedure g).places) decision
+  pub same : tree ≡ tree_from g course decision
+
+-- the tree is a stop, or the decisions at a node with what stands behind them
+abbrev pub GoesOn : Ground → ℕ → PathTree → Onward → Type 0
+GoesOn g left tree (Stops end) = tree ≡ stops end
+GoesOn g left tree (On id course) = IsOnward g left tree id course
+
+abbrev pub IsSmall : Tree → Type 0
+IsSmall t = (weight t < 2 ^ 100) × (depth t ≤ 1000)
+
+abbrev pub AreSmall : List Tree → Type 0
+AreSmall [] = Unit {0}
+AreSmall (t ∷ ts) = IsSmall t × AreSmall ts
+
+abbrev pub ComparesSmall : Comparison → Type 0
+ComparesSmall c = (comparison_weight c < 2 ^ 100) × (depth c.left ≤ 1000) × (depth c.right ≤ 1000)
+
+abbrev pub AssignsSmall : List Tree → Option Change → Type 0
+AssignsSmall terms None = Unit {0}
+AssignsSmall terms (Some c) = IsSmall (substituted terms c.term)
+
+-- each comparison and each assigned term down a tree is below the limits of a region
+abbrev pub StaysSmall : PathTree → List Tree → Type 0
+StaysSmall (fork c met unmet) terms = ComparesSmall (comparison_under terms c) × StaysSmall met terms × StaysSmall unmet terms
+StaysSmall (change c rest) terms = AssignsSmall terms c × StaysSmall rest (changed c terms)
+StaysSmall (stops end) terms = Unit {0}
+
+-- small decisions over the places stand from a node on
+pub record Stands (g : Ground) (id : ℕ) (course : Course) (terms : List Tree) : Type 0 where
+  pub decision : Decision
+  pub unfolds : Unfolds g.graph.now.nodes g.graph.now.entries id decision
+  pub places : DecidesPlacesBelow (length (ground_procedure g).places) decision
+  pub small : StaysSmall (tree_from g course decision) terms
+
+-- numbers of small terms over n places, one for each place
+pub record IsEnvironment (n : ℕ) (nodes : List TermNode) (env : List TermId) : Type 0 where
+  pub within : AreWithin nodes env
+  pub size : length env ≡ n
+  pub places : HavePlacesBelow n (terms_of nodes env)
+  pub small : AreSmall (terms_of nodes env)
+
+-- a small term over n places
+pub record IsTerm (n : ℕ) (nodes : List TermNode) (id : TermId) : Type 0 where
+  pub within : id.index < length nodes
+  pub places : HavePlacesBelow n (tree_at nodes id ∷ [])
+  pub small : IsSmall (tree_at nodes id)
+
+abbrev pub comparison_at : List TermNode → Sides → Comparison
+comparison_at nodes s = record { left = tree_at nodes s.left; relation = s.relation; right = tree_at nodes s.right }
+
+-- the numbers of the sides of a small comparison
+pub record IsCompared (nodes : List TermNode) (s : Sides) : Type 0 where
+  pub left : s.left.index < length nodes
+  pub right : s.right.index < length nodes
+  pub small : ComparesSmall (comparison_at nodes s)
+
+-- one literal more, with this form
+pub record IsOneMore (f : LiteralForm) (old new : List LitForm) : Type 0 where
+  pub literal : LitForm
+  pub last : new ≡ old ++ literal ∷ []
+  pub form : literal_form_of literal ≡ f
+  pub kept : IsKept f
+
+-- the numbers of the sides of a small comparison over n places
+pub record AreSides (n : ℕ) (nodes : List TermNode) (s : Sides) : Type 0 where
+  pub compared : IsCompared nodes s
+  pub places : ComparesPlacesBelow n (comparison_at nodes s)
+
+-- numbered sides and the form of their comparison
+pub record StandsFor (n : ℕ) (nodes : List TermNode) (s : Sides) (f : LiteralForm) : Type 0 where
+  pub sides : AreSides n nodes s
+  pub form : f ≡ comparison_form (comparison_at nodes s)
+  pub kept : IsKept f
+
+abbrev pub AreForms : ℕ → List TermNode → List Sides → List LiteralForm → Type 0
+AreForms n nodes [] [] = Unit {0}
+AreForms n nodes [] (f ∷ fs) = ⊥
+AreForms n nodes (s ∷ sides) [] = ⊥
+AreForms n nodes (s ∷ sides) (f ∷ fs) = StandsFor n nodes s f × AreForms n nodes sides fs
+
+abbrev pub prefix_forms : Prefix → List LiteralForm
+prefix_forms x = map literal_form_of x.literals.items
+
+-- the literals of a prefix have the forms of their sides
+abbrev pub IsPrefix : ℕ → List TermNode → Prefix → Type 0
+IsPrefix n nodes x = AreForms n nodes x.sides.items (prefix_forms x)
+
+pub record IsSamePrefix (old new : Prefix) : Type 0 where
+  pub path : new.path.items ≡ old.path.items
+  pub sides : new.sides.items ≡ old.sides.items
+  pub literals : new.literals.items ≡ old.literals.items
+
+-- which literals have no row: those plainly refuted, but none among the long rows
+abbrev pub IsLeftOut : Bool → List Place → ℕ → List LiteralForm → Type 0
+IsLeftOut true places pc fs = ⊥
+IsLeftOut false places pc fs = IsPlainlyRefuted places pc fs
+
+abbrev pub LeftOut : Ground → List LiteralForm → Type 0
+LeftOut g fs = IsLeftOut g.long g.proc.now.places g.line fs
+
+-- the paths that are not left out, in order
+abbrev pub AreKept : (RegionPath → Type 0) → List RegionPath → List RegionPath → Type 0
+AreKept Out [] kept = kept ≡ []
+AreKept Out (r ∷ all) kept = (Out r × AreKept Out all kept) ⊎ ((Out r → ⊥) × (more : List RegionPath) × (kept ≡ r ∷ more) × AreKept Out all more)
+
+-- the row of a path behind these decisions and literals
+abbrev pub normal_behind : List Bool → List LiteralForm → RegionPath → NormalRow
+normal_behind path fs r = record { path = path ++ r.row.path; literals = fs ++ forms_of r; stop = r.stop; values = map norm r.row.values }
+
+-- the rows of these paths behind a prefix, but for those left out, are added
+pub record Adds (Out : List LiteralForm → Type 0) (path : List Bool) (fs : List LiteralForm) (all : List RegionPath) (old new : List Row) : Type 0 where
+  pub kept : List RegionPath
+  pub each : AreKept (λ r. Out (fs ++ forms_of r)) all kept
+  pub rows : map row_of new ≡ map row_of old ++ map (normal_behind path fs) kept
+
+-- the long rows, or those of the table
+abbrev pub IsTableFor : Bool → Procedure → List LoopInfo → ℕ → TableOr → Type 0
+IsTableFor true = IsLongTable
+IsTableFor false = IsTable

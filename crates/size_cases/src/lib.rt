@@ -1,0 +1,10 @@
+//! Worked cases of the sizes of regions, tried through their public calls on procedures that are read from texts. Nothing
+//! but tests stands here, so that no layer is proved with its tests.
+#![tactic(auto)]
+
+#[cfg(test)]
+mod limits;
+#[cfg(test)]
+mod loops;
+#[cfg(test)]
+mod reading;

@@ -1,0 +1,12 @@
+//! Worked cases of tables and long rows, tried through their public calls on procedures that are read from texts.
+//! Nothing but tests stands here, so that no layer is proved with its tests.
+#![tactic(auto)]
+
+#[cfg(test)]
+mod regions;
+#[cfg(test)]
+mod row_text;
+#[cfg(test)]
+mod sizes;
+#[cfg(test)]
+mod tables;

@@ -1,0 +1,15 @@
+"""Bytes to an accepted text, or to the first refusal; each check looks at the whole text before the next begins."""
+
+from __future__ import annotations
+
+from model.checking import check
+from model.lexing import tokens_of
+from model.ordering import arrange
+from model.parsing import statements_of
+from model.program import CheckedText
+
+
+def accept(text: bytes) -> CheckedText:
+    """The checked text."""
+    statements = statements_of(tokens_of(text))
+    return check(statements, arrange(statements, len(text)))

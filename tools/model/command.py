@@ -1,0 +1,74 @@
+"""The words of the command line, and the answer to a text."""
+
+from __future__ import annotations
+
+import sys
+import threading
+from concurrent.futures import ThreadPoolExecutor
+from dataclasses import dataclass
+
+from model.accepting import accept
+from model.making import number_of, summary_of
+from model.printing import SECTIONS, report_of
+from model.refusal import Refused
+
+DEEPEST_CALL = 200_000
+STACK_BYTES = 512 * 1024 * 1024
+NOT_UNDERSTOOD = ("malpas: words not understood\n", 6)
+
+
+@dataclass(frozen=True)
+class Request:
+    """What the words ask for: sections, or the summary of a made text."""
+
+    sections: tuple[str, ...]
+    made: int | None
+
+
+def read_words(words: list[str]) -> Request | None:
+    """The request of the words; None where they are not understood."""
+    chosen = {f"--{section.lower()}": section for section in SECTIONS}
+    named: set[str] = set()
+    made: list[int | None] = []
+    waiting = iter(words)
+    for word in waiting:
+        if word in chosen:
+            named.add(chosen[word])
+        elif word == "--generate":
+            made.append(number_of(next(waiting, "")))
+        elif word.startswith("--generate="):
+            made.append(number_of(word.removeprefix("--generate=")))
+        else:
+            return None
+    if len(made) > 1 or None in made:
+        return None
+    sections = tuple(section for section in SECTIONS if section in named or not named)
+    return Request(sections, made[0] if made else None)
+
+
+def answer(text: bytes, sections: tuple[str, ...] = SECTIONS) -> tuple[str, int]:
+    """What is printed for a text, and the exit status."""
+    try:
+        return report_of(accept(text), sections)
+    except Refused as refused:
+        return refused.line(), 2
+
+
+def deeply(call, *arguments):
+    """The answer of a call that runs on a stack large enough for the deepest expressions."""
+    sys.setrecursionlimit(DEEPEST_CALL)
+    threading.stack_size(STACK_BYTES)
+    with ThreadPoolExecutor(1) as pool:
+        return pool.submit(call, *arguments).result()
+
+
+def main() -> int:
+    """Answers standard input on standard output."""
+    request = read_words(sys.argv[1:])
+    output, status = NOT_UNDERSTOOD
+    if request is not None and request.made is not None:
+        output, status = deeply(summary_of, request.made)
+    elif request is not None:
+        output, status = deeply(answer, sys.stdin.buffer.read(), request.sections)
+    sys.stdout.write(output)
+    return status
