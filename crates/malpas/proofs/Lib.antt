@@ -1,3 +1,4 @@
 pub mod Sent
 pub mod Ended
 pub mod Outcomes
+pub mod Summed

@@ -10,52 +10,53 @@ use Rattle.acceptance.specs.Acceptance.{Accepts}
 use Rattle.malpas.specs.Answer.{text_limit}
 use Rattle.malpas.specs.Parts.{text_due, Reports}
 use Rattle.malpas.specs.Top.{HasAll, HasFewer, IsReported}
+use Rattle.request.specs.declared.selection.Selection.{Selection}
 
 -- The bytes, where they are told, are few enough and are accepted with this checked text.
 abbrev pub HasText : Option (List ℕ) → Text → Type 0
 HasText old t = IfSome old (λ bytes. (length bytes ≤ text_limit) × Accepts bytes t)
 
 -- A report that is written whole has all procedures.
-whole : (old new : Option (List ℕ)) (settled : Option ℕ) (before now : ℕ) (t : Text) (report : Report) (status : ℕ) → Reports old new settled before now t (Some report) status
+whole : (sections : Selection) (old new : Option (List ℕ)) (settled : Option ℕ) (before now : ℕ) (t : Text) (report : Report) (status : ℕ) → Reports sections old new settled before now t (Some report) status
     → status ≤ 1 → HasAll report t
-whole old new settled before now t report status ends low =
+whole sections old new settled before now t report status ends low =
     elim ends [
       | inl done ↦ done.whole
       | inr rest ↦ elim rest [ inl cut ↦ absurd (omega (arith, cut.is, low)) | inr short ↦ absurd (omega (arith, short.is, low)) ]
     ]
 
 -- Where memory ran out the report has not all procedures.
-fewer : (old new : Option (List ℕ)) (settled : Option ℕ) (before now : ℕ) (t : Text) (report : Report) (status : ℕ) → Reports old new settled before now t (Some report) status
+fewer : (sections : Selection) (old new : Option (List ℕ)) (settled : Option ℕ) (before now : ℕ) (t : Text) (report : Report) (status : ℕ) → Reports sections old new settled before now t (Some report) status
     → status ≡ 5 → HasFewer report t
-fewer old new settled before now t report status ends five =
+fewer sections old new settled before now t report status ends five =
     elim ends [
       | inl done ↦ absurd (omega (arith, done.low, five))
       | inr rest ↦ elim rest [ inl cut ↦ absurd (omega (arith, cut.is, five)) | inr short ↦ short.fewer ]
     ]
 
 -- Where the sink failed a prefix of what was due is written.
-part : (old new : Option (List ℕ)) (settled : Option ℕ) (before now : ℕ) (t : Text) (report : Report) (status : ℕ) → Reports old new settled before now t (Some report) status
-    → status ≡ 4 → AppendsPrefix old new (text_due t report)
-part old new settled before now t report status ends four =
+part : (sections : Selection) (old new : Option (List ℕ)) (settled : Option ℕ) (before now : ℕ) (t : Text) (report : Report) (status : ℕ) → Reports sections old new settled before now t (Some report) status
+    → status ≡ 4 → AppendsPrefix old new (text_due sections t report)
+part sections old new settled before now t report status ends four =
     elim ends [
       | inl done ↦ absurd (omega (arith, done.low, four))
       | inr rest ↦ elim rest [ inl cut ↦ cut.part | inr short ↦ absurd (omega (arith, short.is, four)) ]
     ]
 
 -- With status 0 no procedure has a bad run.
-clean : (old new : Option (List ℕ)) (settled : Option ℕ) (before now : ℕ) (t : Text) (report : Report) (status : ℕ) → Reports old new settled before now t (Some report) status
+clean : (sections : Selection) (old new : Option (List ℕ)) (settled : Option ℕ) (before now : ℕ) (t : Text) (report : Report) (status : ℕ) → Reports sections old new settled before now t (Some report) status
     → IsTold t report → status ≡ 0 → NoProcedureHasABadRun t
-clean old new settled before now t report status ends told zero =
+clean sections old new settled before now t report status ends told zero =
     elim ends [
       | inl done ↦ no_bad_run t report (told_all t report (omega (arith, done.whole)) told) told.1.safe (sym done.is ∙ zero)
       | inr rest ↦ elim rest [ inl cut ↦ absurd (omega (arith, cut.is, zero)) | inr short ↦ absurd (omega (arith, short.is, zero)) ]
     ]
 
 -- What is told of the first procedures of the text that was read is what the report says of it.
-pub reported : (bytes left old new : Option (List ℕ)) (settled : Option ℕ) (before now : ℕ) (t : Text) (report : Option Report) (status : ℕ) → IsAtEnd left → HasText bytes t
-    → IfSome report (λ r. IsTold t r × (0 < length r.procs)) → Reports old new settled before now t report status → IfSome report (IsReported bytes left old new status)
-reported bytes left old new settled before now t None status at_end text told ends = tt
-reported bytes left old new settled before now t (Some report) status at_end text told ends = (
+pub reported : (sections : Selection) (bytes left old new : Option (List ℕ)) (settled : Option ℕ) (before now : ℕ) (t : Text) (report : Option Report) (status : ℕ) → IsAtEnd left → HasText bytes t
+    → IfSome report (λ r. IsTold t r × (0 < length r.procs)) → Reports sections old new settled before now t report status → IfSome report (IsReported None sections bytes left old new status)
+reported sections bytes left old new settled before now t None status at_end text told ends = tt
+reported sections bytes left old new settled before now t (Some report) status at_end text told ends = (
   at_end,
   (
     t,
@@ -64,20 +65,20 @@ reported bytes left old new settled before now t (Some report) status at_end tex
       record {
         reported = told.0.0;
         some = told.1;
-        whole = whole old new settled before now t report status ends;
-        fewer = fewer old new settled before now t report status ends;
+        whole = whole sections old new settled before now t report status ends;
+        fewer = fewer sections old new settled before now t report status ends;
         one_row = told.0.1.one_row;
         safe = told.0.1.safe;
-        clean = clean old new settled before now t report status ends told.0;
-      equal_values = told.0.1.equal_values;
+        clean = clean sections old new settled before now t report status ends told.0;
+        equal_values = told.0.1.equal_values;
       },
-      part old new settled before now t report status ends,
+      part sections old new settled before now t report status ends,
     ),
   ),
 )
 
 -- Where the sink failed there is a report.
-pub not_silent : (old new : Option (List ℕ)) (settled : Option ℕ) (before now : ℕ) (t : Text) (report : Option Report) (status : ℕ) → Reports old new settled before now t report status
+pub not_silent : (sections : Selection) (old new : Option (List ℕ)) (settled : Option ℕ) (before now : ℕ) (t : Text) (report : Option Report) (status : ℕ) → Reports sections old new settled before now t report status
     → status ≡ 4 → report ≡ None → ⊥
-not_silent old new settled before now t None status ends four none = omega (arith, ends, four)
-not_silent old new settled before now t (Some report) status ends four none = cc
+not_silent sections old new settled before now t None status ends four none = omega (arith, ends, four)
+not_silent sections old new settled before now t (Some report) status ends four none = cc

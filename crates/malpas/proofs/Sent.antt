@@ -10,10 +10,11 @@ use Rattle.il_edge.specs.Faults.{Rose}
 use Rattle.il_edge.specs.Known.{SameTold, Appends, AppendsPrefix, IsSettled}
 use Rattle.report.specs.declared.report.ProcReport.{ProcReport}
 use Rattle.report.specs.declared.report.Report.{Report}
+use Rattle.request.specs.declared.selection.Selection.{Selection}
 use Rattle.report_text.specs.Report.{head_text, part_text, parts_text}
-use Rattle.report_text.proofs.Written.{prefix_behind}
+use Rattle.form_text.proofs.Written.{prefix_behind}
 use Rattle.report.specs.Headline.{IsTold}
-use Rattle.malpas.specs.Parts.{all, before_last, last_alone, text_with, first_text, next_text, SettledPast, KeepsParts, IsSettledBehind, AreSent, AreCut}
+use Rattle.malpas.specs.Parts.{before_last, last_alone, text_with, first_text, next_text, SettledPast, KeepsParts, IsSettledBehind, AreSent, AreCut}
 
 -- Two reports with the same title and profile have the same head.
 same_head : (a b : Report) → a.title ≡ b.title → a.profile ≡ b.profile → head_text a ≡ head_text b
@@ -21,14 +22,14 @@ unfolding head_text
 same_head a b title profile = cc
 
 -- They have the same text with the same parts.
-same_text : (a b : Report) (ps : List ProcReport) → a.title ≡ b.title → a.profile ≡ b.profile → text_with a ps ≡ text_with b ps
-same_text a b [] title profile = refl
-same_text a b (p ∷ ps) title profile = ap (λ l. l ++ parts_text all (p ∷ ps)) (same_head a b title profile)
+same_text : (sections : Selection) (a b : Report) (ps : List ProcReport) → a.title ≡ b.title → a.profile ≡ b.profile → text_with sections a ps ≡ text_with sections b ps
+same_text sections a b [] title profile = refl
+same_text sections a b (p ∷ ps) title profile = ap (λ l. l ++ parts_text sections (p ∷ ps)) (same_head a b title profile)
 
 -- Where there is a part, the text is the head and the parts.
-pub text_with_some : (report : Report) (ps : List ProcReport) → 0 < length ps → text_with report ps ≡ head_text report ++ parts_text all ps
-text_with_some report [] some = absurd (omega arith)
-text_with_some report (p ∷ ps) some = refl
+pub text_with_some : (sections : Selection) (report : Report) (ps : List ProcReport) → 0 < length ps → text_with sections report ps ≡ head_text report ++ parts_text sections ps
+text_with_some sections report [] some = absurd (omega arith)
+text_with_some sections report (p ∷ ps) some = refl
 
 -- The procedures before the one that is added last are those before.
 before_pushed : (ps : List ProcReport) (p : ProcReport) → before_last (ps ++ p ∷ []) ≡ ps
@@ -47,11 +48,11 @@ last_is ps p last =
     ∙ ap (λ l. p ∷ l) (drop_all (length ps - 1 + 1) ps (omega arith))
 
 -- What the last procedure adds is the head, where it is the first, and its part.
-pub next_is : (report : Report) (items : List ProcReport) (p : ProcReport) → items ≡ report.procs → slice_get items (length items - 1) ≡ Some p
-    → next_text report ≡ first_text report ++ part_text all p
-next_is report items p same last =
+pub next_is : (sections : Selection) (report : Report) (items : List ProcReport) (p : ProcReport) → items ≡ report.procs → slice_get items (length items - 1) ≡ Some p
+    → next_text sections report ≡ first_text report ++ part_text sections p
+next_is sections report items p same last =
     let at : slice_get report.procs (length report.procs - 1) ≡ Some p = rw (← same) last in
-    ap (λ l. first_text report ++ parts_text all l) (last_is report.procs p at) ∙ ap (λ l. first_text report ++ l) (append-nil (part_text all p))
+    ap (λ l. first_text report ++ parts_text sections l) (last_is report.procs p at) ∙ ap (λ l. first_text report ++ l) (append-nil (part_text sections p))
 
 -- The head of a report stands before its first part,
 first_of : (head : List ℕ) (n : ℕ) → n ≡ 1 → (if n == 1 then head else []) ≡ head
@@ -62,21 +63,21 @@ later_of : (head : List ℕ) (n : ℕ) → 1 < n → (if n == 1 then head else [
 later_of head n more = grind (arith, nat_tests)
 
 -- One more part stands behind the text with those before it.
-text_more : (report : Report) (ps : List ProcReport) (p : ProcReport) → report.procs ≡ ps ++ p ∷ []
-    → text_with report (ps ++ p ∷ []) ≡ text_with report ps ++ (first_text report ++ parts_text all (p ∷ []))
-text_more report [] p procs = ap (λ l. l ++ parts_text all (p ∷ [])) (sym (first_of (head_text report) (length report.procs) (ap length procs)))
-text_more report (q ∷ ps) p procs =
+text_more : (sections : Selection) (report : Report) (ps : List ProcReport) (p : ProcReport) → report.procs ≡ ps ++ p ∷ []
+    → text_with sections report (ps ++ p ∷ []) ≡ text_with sections report ps ++ (first_text report ++ parts_text sections (p ∷ []))
+text_more sections report [] p procs = ap (λ l. l ++ parts_text sections (p ∷ [])) (sym (first_of (head_text report) (length report.procs) (ap length procs)))
+text_more sections report (q ∷ ps) p procs =
     let more : 1 < length report.procs = rw procs (omega (arith, length_push ps p)) in
-    ap (λ l. head_text report ++ l) (flat_map-append (part_text all) (q ∷ ps) (p ∷ [])) ∙ sym (append_assoc (head_text report) (parts_text all (q ∷ ps)) (parts_text all (p ∷ [])))
-    ∙ ap (λ l. text_with report (q ∷ ps) ++ (l ++ parts_text all (p ∷ []))) (sym (later_of (head_text report) (length report.procs) more))
+    ap (λ l. head_text report ++ l) (flat_map-append (part_text sections) (q ∷ ps) (p ∷ [])) ∙ sym (append_assoc (head_text report) (parts_text sections (q ∷ ps)) (parts_text sections (p ∷ [])))
+    ∙ ap (λ l. text_with sections report (q ∷ ps) ++ (l ++ parts_text sections (p ∷ []))) (sym (later_of (head_text report) (length report.procs) more))
 
 -- The text of a report with one more procedure is that of the report before, and what the last procedure adds.
-text_next : (before now : Report) (p : ProcReport) → now.title ≡ before.title → now.profile ≡ before.profile → now.procs ≡ before.procs ++ p ∷ []
-    → text_with now now.procs ≡ text_with before before.procs ++ next_text now
-text_next before now p title profile procs =
-    ap (text_with now) procs ∙ text_more now before.procs p procs
-    ∙ ap (λ l. text_with now before.procs ++ (first_text now ++ parts_text all l)) (sym (ap last_alone procs ∙ last_pushed before.procs p))
-    ∙ ap (λ l. l ++ next_text now) (same_text now before before.procs title profile)
+text_next : (sections : Selection) (before now : Report) (p : ProcReport) → now.title ≡ before.title → now.profile ≡ before.profile → now.procs ≡ before.procs ++ p ∷ []
+    → text_with sections now now.procs ≡ text_with sections before before.procs ++ next_text sections now
+text_next sections before now p title profile procs =
+    ap (text_with sections now) procs ∙ text_more sections now before.procs p procs
+    ∙ ap (λ l. text_with sections now before.procs ++ (first_text now ++ parts_text sections l)) (sym (ap last_alone procs ∙ last_pushed before.procs p))
+    ∙ ap (λ l. l ++ next_text sections now) (same_text sections now before before.procs title profile)
 
 -- What was held and a text behind it is settled where all that is held then is settled.
 settled_past : (old new : Option (List ℕ)) (settled : Option ℕ) (text : List ℕ) → Appends old new text → IsSettled new settled → SettledPast old settled text
@@ -97,66 +98,66 @@ settled_less (Some held) None text rest past = past
 settled_less (Some held) (Some count) text rest past = omega (arith, length-append held (text ++ rest), length-append text rest, length-append held text)
 
 -- Parts in front of what is written and settled are kept while more is written behind it.
-pub keeps : (old mid new : Option (List ℕ)) (settled : Option ℕ) (report : Report) (ps : List ProcReport) (text rest more : List ℕ) → text ≡ text_with report ps ++ rest
-    → Appends old mid text → IsSettledBehind ps mid settled → Appends mid new more → KeepsParts old new settled report ps
-keeps old mid new settled report [] text rest more parts wrote settles behind = tt
-keeps old mid new settled report (p ∷ ps) text rest more parts wrote settles behind =
-    let front = text_with report (p ∷ ps) in
+pub keeps : (sections : Selection) (old mid new : Option (List ℕ)) (settled : Option ℕ) (report : Report) (ps : List ProcReport) (text rest more : List ℕ) → text ≡ text_with sections report ps ++ rest
+    → Appends old mid text → IsSettledBehind ps mid settled → Appends mid new more → KeepsParts sections old new settled report ps
+keeps sections old mid new settled report [] text rest more parts wrote settles behind = tt
+keeps sections old mid new settled report (p ∷ ps) text rest more parts wrote settles behind =
+    let front = text_with sections report (p ∷ ps) in
     let both : text ++ more ≡ front ++ (rest ++ more) = ap (λ l. l ++ more) parts ∙ append_assoc front rest more in (
       (rest ++ more, subst (Appends old new) both (Appends-trans old mid new text more wrote behind)),
       settled_less old settled front rest (subst (SettledPast old settled) parts (settled_past old mid settled text wrote settles)),
     )
 
 -- No part is written at first.
-pub sent_none : (held : Option (List ℕ)) (settled : Option ℕ) (report : Report) → report.procs ≡ [] → AreSent held held settled report
-sent_none held settled report none =
-    let Holds : List ProcReport → Type 0 = λ ps. Appends held held (text_with report ps) × IsSettledBehind ps held settled in
+pub sent_none : (sections : Selection) (held : Option (List ℕ)) (settled : Option ℕ) (report : Report) → report.procs ≡ [] → AreSent sections held held settled report
+sent_none sections held settled report none =
+    let Holds : List ProcReport → Type 0 = λ ps. Appends held held (text_with sections report ps) × IsSettledBehind ps held settled in
     let all = subst Holds (sym none) (Appends-nil held, tt) in
     record { wrote = all.0; settles = all.1 }
 
 -- The part of the next procedure is written and settled.
-pub sent_more : (old mid new : Option (List ℕ)) (settled_mid settled : Option ℕ) (before now : Report) (p : ProcReport)
+pub sent_more : (sections : Selection) (old mid new : Option (List ℕ)) (settled_mid settled : Option ℕ) (before now : Report) (p : ProcReport)
     → now.title ≡ before.title → now.profile ≡ before.profile → now.procs ≡ before.procs ++ p ∷ []
-    → AreSent old mid settled_mid before → Appends mid new (next_text now) → IsSettled new settled → AreSent old new settled now
-sent_more old mid new settled_mid settled before now p title profile procs sent wrote settles = record {
-  wrote = subst (Appends old new) (sym (text_next before now p title profile procs)) (Appends-trans old mid new _ _ sent.wrote wrote);
+    → AreSent sections old mid settled_mid before → Appends mid new (next_text sections now) → IsSettled new settled → AreSent sections old new settled now
+sent_more sections old mid new settled_mid settled before now p title profile procs sent wrote settles = record {
+  wrote = subst (Appends old new) (sym (text_next sections before now p title profile procs)) (Appends-trans old mid new _ _ sent.wrote wrote);
   settles = settled_behind now.procs new settled settles;
 }
 
 -- The sink fails in the part of the next procedure.
-pub cut_in : (old mid new : Option (List ℕ)) (settled_mid settled : Option ℕ) (faults_old faults_mid faults_new : ℕ) (before now : Report) (p : ProcReport)
+pub cut_in : (sections : Selection) (old mid new : Option (List ℕ)) (settled_mid settled : Option ℕ) (faults_old faults_mid faults_new : ℕ) (before now : Report) (p : ProcReport)
     → now.title ≡ before.title → now.profile ≡ before.profile → now.procs ≡ before.procs ++ p ∷ []
-    → AreSent old mid settled_mid before → AppendsPrefix mid new (next_text now) → settled ≡ settled_mid → faults_old ≤ faults_mid → Rose faults_mid faults_new
-    → AreCut old new settled faults_old faults_new now
-cut_in old mid new settled_mid settled faults_old faults_mid faults_new before now p title profile procs sent part same later rose =
+    → AreSent sections old mid settled_mid before → AppendsPrefix mid new (next_text sections now) → settled ≡ settled_mid → faults_old ≤ faults_mid → Rose faults_mid faults_new
+    → AreCut sections old new settled faults_old faults_new now
+cut_in sections old mid new settled_mid settled faults_old faults_mid faults_new before now p title profile procs sent part same later rose =
     let some : 0 < length now.procs = rw procs (omega (arith, length_push before.procs p)) in
-    let text : text_with before before.procs ++ next_text now ≡ head_text now ++ parts_text all now.procs =
-    sym (text_next before now p title profile procs) ∙ text_with_some now now.procs some in
-    let wrote : Appends old mid (text_with now before.procs) = subst (Appends old mid) (sym (same_text now before before.procs title profile)) sent.wrote in
+    let text : text_with sections before before.procs ++ next_text sections now ≡ head_text now ++ parts_text sections now.procs =
+    sym (text_next sections before now p title profile procs) ∙ text_with_some sections now now.procs some in
+    let wrote : Appends old mid (text_with sections now before.procs) = subst (Appends old mid) (sym (same_text sections now before before.procs title profile)) sent.wrote in
     let settles : IsSettledBehind before.procs mid settled = subst (IsSettledBehind before.procs mid) (sym same) sent.settles in
     record {
       some = some;
       part = subst (AppendsPrefix old new) text (prefix_behind old mid new _ _ sent.wrote part);
-      kept = subst (KeepsParts old new settled now) (sym (ap before_last procs ∙ before_pushed before.procs p)) (keeps old mid new settled now before.procs _ [] part.0 (sym (append-nil _)) wrote settles part.3);
+      kept = subst (KeepsParts sections old new settled now) (sym (ap before_last procs ∙ before_pushed before.procs p)) (keeps sections old mid new settled now before.procs _ [] part.0 (sym (append-nil _)) wrote settles part.3);
       rose = omega (arith, later, rose);
     }
 
 -- The parts before the last one stand in front of all.
-pub parts_before : (report : Report) → 0 < length report.procs → (rest : List ℕ) × (text_with report report.procs ≡ text_with report (before_last report.procs) ++ rest)
-parts_before report some =
+pub parts_before : (sections : Selection) (report : Report) → 0 < length report.procs → (rest : List ℕ) × (text_with sections report report.procs ≡ text_with sections report (before_last report.procs) ++ rest)
+parts_before sections report some =
     let procs = report.procs in
     elim (slice_get_cases procs (length procs - 1)).1 [
       | inl here ↦
           let parts : procs ≡ before_last procs ++ here.0 ∷ [] =
           sym (take-append-drop (length procs - 1) procs) ∙ ap (λ l. before_last procs ++ l) (last_is procs here.0 here.2) in
-          (first_text report ++ parts_text all (here.0 ∷ []), ap (text_with report) parts ∙ text_more report (before_last procs) here.0 parts)
+          (first_text report ++ parts_text sections (here.0 ∷ []), ap (text_with sections report) parts ∙ text_more sections report (before_last procs) here.0 parts)
       | inr past ↦ absurd (omega arith)
     ]
 
 -- After the parts of the first procedures of a text: they are written and settled, and the faults have not fallen.
-pub record AreSoFar (old now : Option (List ℕ)) (settled : Option ℕ) (faults_old faults_now : ℕ) (t : Text) (count : ℕ) (report : Report) : Type 0 where
+pub record AreSoFar (sections : Selection) (old now : Option (List ℕ)) (settled : Option ℕ) (faults_old faults_now : ℕ) (t : Text) (count : ℕ) (report : Report) : Type 0 where
   pub told_of : IsTold t report
   pub made : length report.procs ≡ count
-  pub sent : AreSent old now settled report
+  pub sent : AreSent sections old now settled report
   pub told : SameTold old now
   pub later : faults_old ≤ faults_now

@@ -1,17 +1,23 @@
--- What an outcome says: its status is that of what it holds, its text belongs to what it holds, and what it holds belongs to the text that was read.
-use Rattle.std.specs.Prelude.{◌≡◌, ℕ, ◌<◌, ◌≤◌, ◌⊎◌, List, length, Option, None, Some, IfSome}
+-- What an outcome says: its status is that of what it holds, its text belongs to what it holds and to what the words ask for, and what it holds
+-- belongs to the text that was read, or that was made.
+use Rattle.std.specs.Prelude.{◌≡◌, ℕ, ◌<◌, ◌≤◌, ◌⊎◌, ◌++◌, List, length, Option, None, Some, IfSome}
 use Rattle.il_core.specs.Text.{Text}
 use Rattle.il_core.specs.declared.refusal.Refusal.{Refusal}
-use Rattle.il_edge.specs.Known.{IsAtEnd, TookMore, AppendsPrefix}
+use Rattle.il_edge.specs.Known.{IsAtEnd, TookMore, Appends, AppendsPrefix, IsSettled}
+use Rattle.made_text.specs.Made.{made_text}
 use Rattle.report.specs.declared.report.Report.{Report}
 use Rattle.report.specs.Headline.{TablesHaveOneRowPerInput, CleanProceduresHaveNoBadRun, NoProcedureHasABadRun, EndingRunsHaveEqualValues}
 use Rattle.report.specs.Reported.{IsReportOfFront}
 use Rattle.report.specs.Status.{status_of}
-use Rattle.report_text.specs.Report.{report_text}
+use Rattle.report_text.specs.Report.{head_text, parts_text, report_text}
 use Rattle.report_text.specs.Refusal.{refusal_text, words_text}
 use Rattle.acceptance.specs.Acceptance.{Accepts, HasRefusal}
 use Rattle.malpas.specs.Answer.{text_limit, too_long}
-use Rattle.malpas.specs.Parts.{all, text_due}
+use Rattle.request.specs.Words.{Understands}
+use Rattle.request.specs.declared.selection.Selection.{Selection}
+use Rattle.request.specs.declared.spelt.Request.{Request}
+use Rattle.summary_text.specs.Summary.{summary_text}
+use Rattle.malpas.specs.Parts.{before_last, text_due, KeepsParts}
 use Rattle.malpas.specs.declared.top.Outcome.{Outcome}
 
 -- The status that goes with a refusal or a report: with a report its own, 0 or 1, or 4 or 5; 2 or 4 with a refusal; 3, 4, 5 or 6 with neither.
@@ -21,11 +27,29 @@ HasStatus None (Some report) status = ((status ≡ status_of report) × (status 
 HasStatus (Some refusal) None status = (status ≡ 2) ⊎ (status ≡ 4)
 HasStatus (Some refusal) (Some report) status = ⊥
 
--- The text that belongs to a refusal or a report; where there is neither, the line that answers words.
-abbrev pub outcome_text : Option Refusal → Option Report → List ℕ
-outcome_text None None = words_text
-outcome_text None (Some report) = report_text all report
-outcome_text (Some refusal) report = refusal_text refusal
+-- The line of a refusal; where there is none, the line that answers words.
+abbrev pub line_text : Option Refusal → List ℕ
+line_text None = words_text
+line_text (Some refusal) = refusal_text refusal
+
+-- The words spell a request and it has this property, or they spell none. No words spell two requests.
+abbrev pub IfAsked : List (List ℕ) → (Request → Type 0) → Type 0
+IfAsked words Has = (request : Option Request) × Understands words request × IfSome request Has
+
+-- The text of a request: all bytes that a source has left, or the made text of the number.
+abbrev pub text_asked : Option ℕ → Option (List ℕ) → Option (List ℕ)
+text_asked None left = left
+text_asked (Some n) left = Some (made_text n)
+
+-- The text of a whole report: its selected sections, or the summary where the text was made.
+abbrev pub whole_text : Option ℕ → Selection → Report → List ℕ
+whole_text None sections report = report_text sections report
+whole_text (Some n) sections report = summary_text n report
+
+-- The text that is due to a report of a text's first procedures; the summary is begun once there are all.
+abbrev pub due_text : Option ℕ → Selection → Text → Report → List ℕ
+due_text None sections t report = text_due sections t report
+due_text (Some n) sections t report = summary_text n report
 
 -- The whole text was written.
 abbrev pub IsWritten : ℕ → Type 0
@@ -66,16 +90,33 @@ pub record Tells (t : Text) (report : Report) (status : ℕ) : Type 0 where
   pub clean : status ≡ 0 → NoProcedureHasABadRun t
   pub equal_values : EndingRunsHaveEqualValues t report
 
--- The report says so of one text, that of all bytes that a source had left, of which none is left now; and where the sink failed, what it holds
--- has grown by a prefix of what is due to that text and the report.
-abbrev pub IsReported : Option (List ℕ) → Option (List ℕ) → Option (List ℕ) → Option (List ℕ) → ℕ → Report → Type 0
-IsReported left_old left_new held_old held_new status report =
-    IsAtEnd left_new × OfText left_old (λ t. Tells t report status × (status ≡ 4 → AppendsPrefix held_old held_new (text_due t report)))
+-- A source is read to its end, unless the text is made.
+abbrev pub IsReadUp : Option ℕ → Option (List ℕ) → Type 0
+IsReadUp None left = IsAtEnd left
+IsReadUp (Some n) left = Unit {0}
 
--- The refusal of the bytes that were taken: there are too many, or they are all that there were and have this first refusal.
-abbrev pub IsRefused : Option (List ℕ) → Option (List ℕ) → Refusal → Type 0
-IsRefused old new refusal =
+-- The report says so of one text, the one that is asked for, which is read to its end where it is not made; and where the sink failed, what it
+-- holds has grown by a prefix of what is due to that text and the report.
+abbrev pub IsReported : Option ℕ → Selection → Option (List ℕ) → Option (List ℕ) → Option (List ℕ) → Option (List ℕ) → ℕ → Report → Type 0
+IsReported made sections left_old left_new held_old held_new status report =
+    IsReadUp made left_new × OfText (text_asked made left_old) (λ t. Tells t report status × (status ≡ 4 → AppendsPrefix held_old held_new (due_text made sections t report)))
+
+-- Where memory ran out, what the sink holds has grown by the parts of the report, and all of it is settled; by nothing where the text is made.
+abbrev pub IsCutShort : Option ℕ → Selection → Option (List ℕ) → Option (List ℕ) → Option ℕ → Option ℕ → Report → Type 0
+IsCutShort None sections old new settled_old settled_new report = Appends old new (head_text report ++ parts_text sections report.procs) × IsSettled new settled_new
+IsCutShort (Some n) sections old new settled_old settled_new report = (new ≡ old) × (settled_new ≡ settled_old)
+
+-- Where the sink failed in a part, those before it are written and settled.
+abbrev pub KeepsOthers : Option ℕ → Selection → Option (List ℕ) → Option (List ℕ) → Option ℕ → Report → Type 0
+KeepsOthers None sections old new settled report = KeepsParts sections old new settled report (before_last report.procs)
+KeepsOthers (Some n) sections old new settled report = Unit {0}
+
+-- The refusal of the text that is asked for. Of bytes that were taken: there are too many, or they are all that there were and have this first
+-- refusal.
+abbrev pub IsRefused : Option ℕ → Option (List ℕ) → Option (List ℕ) → Refusal → Type 0
+IsRefused None old new refusal =
     ((refusal ≡ too_long) × TookMore text_limit old new) ⊎ (IsAtEnd new × IfSome old (λ text. (length text ≤ text_limit) × HasRefusal text refusal))
+IsRefused (Some n) old new refusal = HasRefusal (made_text n) refusal
 
 -- The refusal or the whole report that belongs to a text, with its status.
 abbrev pub BelongsTo : List ℕ → Option Refusal → Option Report → ℕ → Type 0

@@ -116,3 +116,14 @@ pub(crate) fn answer_words<K: Sink>(sink: &mut K) -> Outcome
         report: None,
     }
 }
+
+/// The outcome where nothing is to be written.
+pub(crate) fn silent(status: u8) -> Outcome
+    ensures { result ≡ record { status = status; refusal = None; report = None } }
+{
+    Outcome {
+        status,
+        refusal: None,
+        report: None,
+    }
+}

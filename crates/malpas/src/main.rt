@@ -5,10 +5,14 @@
 #![tactic(auto)]
 
 mod answer;
+mod made;
 mod reporting;
+mod source_text;
 #[cfg(test)]
 mod tests;
 mod top;
+#[cfg(test)]
+mod word_tests;
 
 use il_edge::{StdSink, StdSource};
 use std::env;

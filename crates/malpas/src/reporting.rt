@@ -2,7 +2,7 @@ ghost use Rattle.std.specs.Prelude.{◌≡◌, ◌<◌, ◌≤◌, [], None, len
 ghost use Rattle.il_core.specs.Text.{text_of};
 ghost use Rattle.il_edge.specs.Faults.{HasCause};
 ghost use Rattle.il_edge.specs.Known.{SameTold};
-ghost use Rattle.report_text.specs.Pieces.{Writes};
+ghost use Rattle.form_text.specs.Pieces.{Writes};
 ghost use Rattle.report_text.specs.Report.{end_text};
 ghost use Rattle.report.specs.Headline.{IsTold};
 ghost use Rattle.report.specs.Status.{status_of};
@@ -15,18 +15,9 @@ use il_core::{CheckedText, List, NoMemory};
 use il_edge::{Failed, Sink};
 use malpas_suite::analyse_proc;
 use report::{Report, status_of};
-use report_text::{Selection, put_end, put_head, put_part};
+use report_text::{put_end, put_head, put_part};
+use request::Selection;
 use std::alloc::Global;
-
-/// Each section is written.
-const ALL: Selection = Selection {
-    control: true,
-    usage: true,
-    flow: true,
-    paths: true,
-    semantic: true,
-    compliance: true,
-};
 
 /// Why the parts of a text's procedures are not all written.
 #[derive(Clone, Copy)]
@@ -52,9 +43,9 @@ fn put_first<K: Sink>(report: &Report, sink: &mut K) -> Result<(), Failed>
 }
 
 /// Writes the part of the last procedure of a report, with the head before it where it is the first.
-fn put_next<K: Sink>(report: &Report, sink: &mut K) -> Result<(), Failed>
+fn put_next<K: Sink>(report: &Report, selection: Selection, sink: &mut K) -> Result<(), Failed>
     requires { 0 < length report.now.procs }
-    ensures text { Writes (K.held sink.old) (K.held sink.new) result (next_text report.now) }
+    ensures text { Writes (K.held sink.old) (K.held sink.new) result (next_text selection report.now) }
     ensures told { SameTold (K.held sink.old) (K.held sink.new) }
     ensures settled { K.settled sink.new ≡ K.settled sink.old }
     ensures cause { HasCause (K.faults sink.old) (K.faults sink.new) result }
@@ -63,20 +54,20 @@ fn put_next<K: Sink>(report: &Report, sink: &mut K) -> Result<(), Failed>
         unreachable!()
     };
     match put_first(report, sink) {
-        Ok(()) => put_part(part, ALL, sink),
+        Ok(()) => put_part(part, selection, sink),
         Err(failed) => Err(failed),
     }
 }
 
 /// Writes the part of the last procedure of a report, with the head before it where it is the first, and settles it.
-fn write_next<K: Sink>(report: &Report, sink: &mut K) -> Result<(), Failed>
+fn write_next<K: Sink>(report: &Report, selection: Selection, sink: &mut K) -> Result<(), Failed>
     requires { 0 < length report.now.procs }
-    ensures sent { SendsNext (K.held sink.old) (K.held sink.new) (K.settled sink.old) (K.settled sink.new)
+    ensures sent { SendsNext selection (K.held sink.old) (K.held sink.new) (K.settled sink.old) (K.settled sink.new)
         (K.faults sink.old) (K.faults sink.new) report.now result }
     ensures told { SameTold (K.held sink.old) (K.held sink.new) }
     ensures later { K.faults sink.old ≤ K.faults sink.new }
 {
-    match put_next(report, sink) {
+    match put_next(report, selection, sink) {
         Ok(()) => sink.flush(),
         Err(failed) => Err(failed),
     }
@@ -87,6 +78,7 @@ fn write_next<K: Sink>(report: &Report, sink: &mut K) -> Result<(), Failed>
 fn write_parts<K: Sink>(
     alloc: Global,
     text: &CheckedText,
+    selection: Selection,
     report: &mut Report,
     sink: &mut K,
 ) -> Result<(), PartsEnd>
@@ -94,7 +86,7 @@ fn write_parts<K: Sink>(
     requires profile { report.old.profile ≡ text.now.profile }
     requires none { report.old.procs ≡ [] }
     ensures told_of { IsTold (text_of text.now) report.new }
-    ensures sent { SendsParts (K.held sink.old) (K.held sink.new) (K.settled sink.new)
+    ensures sent { SendsParts selection (K.held sink.old) (K.held sink.new) (K.settled sink.new)
         (K.faults sink.old) (K.faults sink.new) (length text.now.procs) report.new result }
     ensures untouched { report.new.procs ≡ [] → sink.new ≡ sink.old }
     ensures told { SameTold (K.held sink.old) (K.held sink.new) }
@@ -109,7 +101,7 @@ fn write_parts<K: Sink>(
             Ok(()) => {}
             Err(NoMemory) => return Err(PartsEnd::NoMemory),
         }
-        match write_next(report, sink) {
+        match write_next(report, selection, sink) {
             Ok(()) => {}
             Err(Failed) => return Err(PartsEnd::Failed),
         }
@@ -131,10 +123,15 @@ fn write_end<K: Sink>(report: &Report, sink: &mut K) -> u8
 }
 
 /// Makes and writes the report of a text, procedure by procedure.
-pub(crate) fn report_on<K: Sink>(alloc: Global, text: &CheckedText, sink: &mut K) -> Outcome
+pub(crate) fn report_on<K: Sink>(
+    alloc: Global,
+    text: &CheckedText,
+    selection: Selection,
+    sink: &mut K,
+) -> Outcome
     ensures refusal { result.refusal ≡ None }
     ensures told_of { IfSome result.report (λ report. IsTold (text_of text.now) report × (0 < length report.procs)) }
-    ensures written { Reports (K.held sink.old) (K.held sink.new) (K.settled sink.new)
+    ensures written { Reports selection (K.held sink.old) (K.held sink.new) (K.settled sink.new)
         (K.faults sink.old) (K.faults sink.new) (text_of text.now) result.report result.status }
     ensures untouched { result.report ≡ None → sink.new ≡ sink.old }
     ensures told { SameTold (K.held sink.old) (K.held sink.new) }
@@ -145,7 +142,7 @@ pub(crate) fn report_on<K: Sink>(alloc: Global, text: &CheckedText, sink: &mut K
         title: text.title(),
         procs: List::new(alloc),
     };
-    let status = match write_parts(alloc, text, &mut report, sink) {
+    let status = match write_parts(alloc, text, selection, &mut report, sink) {
         Ok(()) => write_end(&report, sink),
         Err(PartsEnd::Failed) => 4,
         Err(PartsEnd::NoMemory) => 5,

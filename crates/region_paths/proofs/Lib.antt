@@ -16,3 +16,4 @@ pub mod Sized
 pub mod Counts
 pub mod Rounds
 pub mod Settled
+pub mod LoopHeads

@@ -167,7 +167,7 @@ line_most p loops g n id q first d counts x l e u size most h f =
     omega (arith, line_counted p loops g n id q first d l e u h, most.each first (decision_at p q) a.0 v a.1, f a.0 a.1)
 
 -- a count that is put in place of another
-set_cases : {X : Type 0} (xs : List X) (i : ℕ) (y : X) (k : ℕ) (x : X) → slice_get (slice_set xs i y) k ≡ Some x → ((k ≡ i) × (x ≡ y)) ⊎ ((k ≡ i → ⊥) × (slice_get xs k ≡ Some x))
+pub set_cases : {X : Type 0} (xs : List X) (i : ℕ) (y : X) (k : ℕ) (x : X) → slice_get (slice_set xs i y) k ≡ Some x → ((k ≡ i) × (x ≡ y)) ⊎ ((k ≡ i → ⊥) × (slice_get xs k ≡ Some x))
 set_cases [] i y k x e = absurd (cc)
 set_cases (z ∷ xs) zero y zero x e = inl (refl, let h = e in cc)
 set_cases (z ∷ xs) zero y (suc k) x e = inr ((λ f. omega (arith, f)), e)
@@ -231,7 +231,7 @@ pub ones_most : (p : Procedure) (loops : List LoopInfo) (g : TestGraph) (counts 
 ones_most p loops g counts ones = record { each = λ k d x u e. omega (arith, ones k x e) }
 
 -- what holds of each element, by its number
-pub all_at : (P : ℕ → Type 0) (xs : List ℕ) → All P xs → (k x : ℕ) → slice_get xs k ≡ Some x → P x
+pub all_at : {X : Type 0} (P : X → Type 0) (xs : List X) → All P xs → (k : ℕ) (x : X) → slice_get xs k ≡ Some x → P x
 all_at P xs a k x e =
     subst P (get_or_from_slice_get xs k x x e) (a k x (slice_get_within xs k x e))
 

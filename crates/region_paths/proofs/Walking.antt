@@ -220,7 +220,7 @@ drop_at [] k x e = absurd (cc)
 drop_at (y ∷ ys) zero x e = let h : y ≡ x = cc in (ys, ap (λ (z : LoopInfo). z ∷ ys) h)
 drop_at (y ∷ ys) (suc k) x e = drop_at ys k x e
 
-head_first : (x : LoopInfo) (rest : List LoopInfo) (line : ℕ) → x.head ≡ line → (is_head (x ∷ rest) line ≡ true) × (leading_of (x ∷ rest) line ≡ x.leading)
+pub head_first : (x : LoopInfo) (rest : List LoopInfo) (line : ℕ) → x.head ≡ line → (is_head (x ∷ rest) line ≡ true) × (leading_of (x ∷ rest) line ≡ x.leading)
 head_first x rest line e = by_test (nat_eq x.head line) (eq-eqb x.head line e)
   where
     by_test : (b : Bool) → b ≡ true → ((b || is_head rest line) ≡ true) × ((if b then x.leading else leading_of rest line) ≡ x.leading)

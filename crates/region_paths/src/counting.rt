@@ -1,5 +1,5 @@
 //! How many paths go on from each node of the lowered graph, counted from the ends, in rounds over the nodes.
-ghost use Rattle.std.specs.Prelude.{◌≡◌, ℕ, suc, ◌<◌, ◌≤◌, List, Option, ◌+◌, All, IfOk, Some, length, slice_get, slice_set};
+ghost use Rattle.std.specs.Prelude.{◌≡◌, ℕ, suc, ◌<◌, ◌≤◌, List, Option, ◌+◌, All, IfOk, IfSome, Some, length, slice_get, slice_set};
 ghost use Rattle.std.specs.Bool.{OnFalse};
 ghost use Rattle.il_core.specs.LineGraph.{IsIn};
 ghost use Rattle.il_core.specs.Checked.{procedure_of, IsChecked};
@@ -11,11 +11,12 @@ ghost use Rattle.test_graph.specs.Decision.{Decision, decision_at};
 ghost use Rattle.test_graph.specs.Lowered.{Unfolds, IsLowered};
 ghost use Rattle.region_paths.specs.Region.{first_lines};
 ghost use Rattle.region_paths.specs.PathTree.{leading_tree, long_tree};
-ghost use Rattle.region_paths.specs.Walk.{AreLines, LeadInside};
+ghost use Rattle.region_paths.specs.Walk.{AreLines, LeadInside, IsLoopOf, AreLoopsOf};
 ghost use Rattle.region_paths.specs.Count as count;
-ghost use Rattle.region_paths.specs.Count.{leaves, capped, counted, IsFew, IsOne, IsFewHead, IsFewWays, AreWaysOf, AreNodeWays, AreHeadCounts, CountAtLeast, CountAtMost, IsRaised};
+ghost use Rattle.region_paths.specs.Count.{leaves, capped, counted, IsFew, IsOne, IsFewHead, IsFewWays, AreWaysOf, AreNodeWays, IsHeadCount, AreHeadCounts, CountAtLeast, CountAtMost, IsRaised};
 
-use crate::walk::{first_node, leading_at, loop_of};
+use crate::heads::loop_at;
+use crate::walk::{first_node, leading_at};
 use control_flow::{Control, LoopInfo};
 use il_core::{CheckedProc, NoMemory};
 use std::alloc::Global;
@@ -136,16 +137,42 @@ fn leading_count(proc: &CheckedProc, graph: &TestGraph, ways: &[LineWays], leadi
     count
 }
 
+/// How many paths go through the leading assertions of a loop, where there is one.
+fn head_count(
+    proc: &CheckedProc,
+    graph: &TestGraph,
+    loops: &[LoopInfo],
+    ways: &[LineWays],
+    at: Option<usize>,
+) -> Option<u64>
+    requires checked { IsChecked (procedure_of proc.now) }
+    requires lowered { IsLowered (procedure_of proc.now) graph.now }
+    requires leading { LeadInside (procedure_of proc.now) loops.now }
+    requires size { length ways.now ≡ length graph.now.nodes }
+    requires ways { AreNodeWays graph.now ways.now }
+    requires few { All IsFewWays ways.now }
+    requires at { IfSome at (λ k. k < length loops.now) }
+    ensures few { IsFewHead result }
+    ensures exact { (line : ℕ) → IsLoopOf loops.now line at → IsHeadCount (procedure_of proc.now) loops.now line result }
+{
+    match at {
+        Some(at) => Some(leading_count(proc, graph, ways, leading_at(loops, at))),
+        None => None,
+    }
+}
+
 /// For each line that is a head, how many paths go through its leading assertions.
 fn head_counts(
     alloc: Global,
     proc: &CheckedProc,
     graph: &TestGraph,
     loops: &[LoopInfo],
+    heads: &[Option<usize>],
 ) -> Result<Vec<Option<u64>>, NoMemory>
     requires checked { IsChecked (procedure_of proc.now) }
     requires lowered { IsLowered (procedure_of proc.now) graph.now }
     requires leading { LeadInside (procedure_of proc.now) loops.now }
+    requires heads { AreLoopsOf (procedure_of proc.now) loops.now heads.now }
     ensures exact { IfOk result (λ counts. AreHeadCounts (procedure_of proc.now) loops.now counts.items) }
     ensures few { IfOk result (λ counts. All IsFewHead counts.items) }
 {
@@ -153,10 +180,7 @@ fn head_counts(
     let lines = proc.lines().len();
     let mut counts = Vec::with_capacity(alloc, lines)?;
     for line in 0..lines {
-        let count = match loop_of(loops, line) {
-            Some(at) => Some(leading_count(proc, graph, &ways, leading_at(loops, at))),
-            None => None,
-        };
+        let count = head_count(proc, graph, loops, &ways, loop_at(heads, line));
         counts.push(count)?;
     }
     Ok(counts)
@@ -391,18 +415,20 @@ pub fn path_count(
     proc: &CheckedProc,
     graph: &TestGraph,
     control: &Control,
+    loops: &[Option<usize>],
     pc: usize,
 ) -> Result<u64, NoMemory>
     requires checked { IsChecked (procedure_of proc.now) }
     requires lowered { IsLowered (procedure_of proc.now) graph.now }
     requires control { IsControlOf (graph_of (procedure_of proc.now)) control.now }
     requires shape { control.now.shape ≡ Reducible }
+    requires loops { AreLoopsOf (procedure_of proc.now) control.now.loops loops.now }
     requires first { IsIn (first_lines control.now.loops) pc }
     ensures { IfOk result (λ n. n ≡ capped (leaves (long_tree (procedure_of proc.now) control.now.loops pc))) }
 {
     ways_go_along_arcs();
     let first = first_node(proc, graph, pc);
-    let heads = head_counts(alloc, proc, graph, control.loops.as_slice())?;
+    let heads = head_counts(alloc, proc, graph, control.loops.as_slice(), loops)?;
     let counts = node_counts(alloc, proc, graph, &heads)?;
     Ok(count_of(&counts, first))
 }

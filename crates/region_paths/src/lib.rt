@@ -6,6 +6,7 @@
 #![tactic(auto)]
 
 mod counting;
+mod heads;
 mod laws;
 mod limit;
 mod sizing;

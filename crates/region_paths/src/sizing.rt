@@ -13,6 +13,7 @@ ghost use Rattle.region_paths.specs.Region.{first_lines};
 ghost use Rattle.region_paths.specs.Size.{IsPast};
 
 use crate::counting::path_count;
+use crate::heads::loops_of_lines;
 use crate::laws::paths_are_listed;
 use crate::limit::Limit;
 use crate::tally::{MOST_PATHS, Tally};
@@ -63,7 +64,9 @@ pub fn size(
 {
     paths_are_listed();
     let places = proc.places().len();
-    if path_count(alloc, proc, graph, control, pc)? > MOST_PATHS {
+    let loops = control.loops.as_slice();
+    let heads = loops_of_lines(alloc, proc, loops)?;
+    if path_count(alloc, proc, graph, control, &heads, pc)? > MOST_PATHS {
         return Ok(Some(Limit::Rows));
     }
     let mut sizes = own_sizes(alloc, places)?;
@@ -72,7 +75,8 @@ pub fn size(
     let within = follow(
         proc,
         graph,
-        control.loops.as_slice(),
+        loops,
+        &heads,
         first,
         proc.lines().len(),
         &mut sizes,

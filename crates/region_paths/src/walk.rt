@@ -10,8 +10,9 @@ ghost use Rattle.test_graph.specs.Decision.{Decision, decision_at};
 ghost use Rattle.test_graph.specs.Lowered.{Unfolds, IsLowered};
 ghost use Rattle.region_paths.specs.Region as region;
 ghost use Rattle.region_paths.specs.Tally.{IsTally, IsGrown, outcome, tallied};
-ghost use Rattle.region_paths.specs.Walk.{StandsAt, AreLines, LeadInside, leading_tree_of, region_tree_of};
+ghost use Rattle.region_paths.specs.Walk.{StandsAt, AreLines, LeadInside, AreLoopsOf, leading_tree_of, region_tree_of};
 
+use crate::heads::loop_at;
 use crate::tally::{Tally, comparison_measure, exchange};
 use control_flow::LoopInfo;
 use il_core::CheckedProc;
@@ -119,6 +120,7 @@ pub fn follow(
     proc: &CheckedProc,
     graph: &TestGraph,
     loops: &[LoopInfo],
+    heads: &[Option<usize>],
     id: usize,
     room: usize,
     env: &mut [TermMeasure],
@@ -128,6 +130,7 @@ pub fn follow(
     requires lowered { IsLowered (procedure_of proc.now) graph.now }
     requires stands { StandsAt (procedure_of proc.now) graph.now id }
     requires leading { LeadInside (procedure_of proc.now) loops.now }
+    requires heads { AreLoopsOf (procedure_of proc.now) loops.now heads.now }
     requires size { length env.old ≡ length proc.now.places }
     requires capped { All IsCapped env.old }
     requires tally { IsTally tally.old }
@@ -138,10 +141,10 @@ pub fn follow(
     match graph.nodes.get(id) {
         Some(TestNode::Test(literal, met, unmet)) => {
             let before = tally.paths;
-            if !follow(proc, graph, loops, *met, room, env, tally) {
+            if !follow(proc, graph, loops, heads, *met, room, env, tally) {
                 return false;
             }
-            if !follow(proc, graph, loops, *unmet, room, env, tally) {
+            if !follow(proc, graph, loops, heads, *unmet, room, env, tally) {
                 return false;
             }
             tally.meet(comparison_measure(literal, env), before);
@@ -151,7 +154,7 @@ pub fn follow(
             let size = measure(term, env);
             let was = exchange(env, *place, size);
             let before = tally.paths;
-            let within = follow(proc, graph, loops, *then, room, env, tally);
+            let within = follow(proc, graph, loops, heads, *then, room, env, tally);
             exchange(env, *place, was);
             if !within {
                 return false;
@@ -159,13 +162,13 @@ pub fn follow(
             tally.meet(size, before);
             true
         }
-        Some(TestNode::AtLine(line, first)) => match loop_of(loops, *line) {
+        Some(TestNode::AtLine(line, first)) => match loop_at(heads, *line) {
             Some(at) => follow_leading(proc, graph, id, leading_at(loops, at), env, tally),
             None => {
                 if room == 0 {
                     tally.add_path()
                 } else {
-                    follow(proc, graph, loops, *first, room - 1, env, tally)
+                    follow(proc, graph, loops, heads, *first, room - 1, env, tally)
                 }
             }
         },

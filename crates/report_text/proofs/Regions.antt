@@ -66,10 +66,10 @@ stopped_within places rs ts i before end d f h e so next =
     let rest = regions_text places end (drop (i + 1) rs) (drop end ts) in
     puts_as (ap (λ l. so.done ++ l) (sym (next_region places rs ts i before end d h e)) ∙ so.whole) (puts_then so.put (puts_short rest next))
 
--- All regions are written.
-pub all_written : {K : Type 0} {held : K → Option (List ℕ)} {settled : K → Option ℕ} {faults : K → ℕ} {a b : K} (places : List Place) (rs : List RegionTable)
+-- All regions are written, and what is left behind them.
+pub all_written : {K T E : Type 0} {held : K → Option (List ℕ)} {settled : K → Option ℕ} {faults : K → ℕ} {a b c : K} {r : Result T E} (places : List Place) (rs : List RegionTable)
     (ts : List Threat) (i before : ℕ) → length rs ≤ i → AreWritten held settled faults a b places rs ts i before
-    → Puts {E = Failed} held settled faults a b (Ok (tt {0})) (regions_text places 0 rs ts)
-all_written places rs ts i before h so =
+    → Puts held settled faults b c r (numbered (threat_text places) (before + 1) (drop before ts)) → Puts held settled faults a c r (regions_text places 0 rs ts)
+all_written places rs ts i before h so rest =
     let none : drop i rs ≡ [] = drop_all i rs h in
-    puts_as (sym (append-nil so.done) ∙ (ap (λ l. so.done ++ regions_text places before l (drop before ts)) (sym none) ∙ so.whole)) so.put
+    puts_as (ap (λ l. so.done ++ regions_text places before l (drop before ts)) (sym none) ∙ so.whole) (puts_then so.put rest)

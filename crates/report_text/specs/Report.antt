@@ -4,7 +4,7 @@ use Rattle.std.specs.List.{flat_map}
 use Rattle.report.specs.Status.{status_of}
 use Rattle.report.specs.declared.report.ProcReport.{ProcReport}
 use Rattle.report.specs.declared.report.Report.{Report}
-use Rattle.report_text.specs.declared.selection.Selection.{Selection}
+use Rattle.request.specs.declared.selection.Selection.{Selection}
 use Rattle.report_text.specs.Sections.{control_text, usage_text, flows_text, paths_text}
 use Rattle.report_text.specs.Tables.{tables_text}
 use Rattle.report_text.specs.Threats.{threats_text}

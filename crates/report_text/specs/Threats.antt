@@ -1,6 +1,6 @@
--- The section on threats: for each region its line, and behind it the threats that stand next and are of that region, numbered from 1 through
--- the procedure, each with its path, its stop and its verdict; and a last line that counts the threats by their verdicts and the regions past their
--- size.
+-- The section on threats: for each region its line, and behind it the threats that stand next and are of that region, each with its path, its
+-- stop and its verdict; and a last line that counts the threats by their verdicts and the regions past their size. Each threat is written once,
+-- under its number from 1 through the procedure: what is left behind the last region stands there.
 use Rattle.std.specs.Prelude.{ℕ, ◌+◌, ◌==◌, ℤ, Bool, true, false, List, [], ◌∷◌, ◌++◌, length, take, drop, count_by, codes, decimal, slice_get, None, Some}
 use Rattle.std.specs.Fmt.{signed_decimal}
 use Rattle.std.specs.List.{prefix_len}
@@ -48,7 +48,7 @@ count_here pc ts = prefix_len (λ t. t.region == pc) ts
 
 -- the regions with their threats, behind so many threats of regions before them
 abbrev pub regions_text : List Place → ℕ → List RegionTable → List Threat → List ℕ
-regions_text places before [] ts = []
+regions_text places before [] ts = numbered (threat_text places) (before + 1) ts
 regions_text places before (r ∷ rs) ts = region_text r ++ numbered (threat_text places) (before + 1) (take (count_here r.pc ts) ts)
     ++ regions_text places (before + count_here r.pc ts) rs (drop (count_here r.pc ts) ts)
 

@@ -10,11 +10,11 @@ use crate::sections::{
     put_compliance_section, put_flow_section, put_paths_section, put_semantic_section,
     put_usage_section,
 };
-use crate::selection::Selection;
 use form_text::put;
 use il_edge::{Failed, Sink};
 use itoa::Buffer;
 use report::ProcReport;
+use request::Selection;
 
 #[tactic(auto, unfolding(crate::specs::Report::title_text))]
 fn put_title<K: Sink>(part: &ProcReport, sink: &mut K) -> Result<(), Failed>

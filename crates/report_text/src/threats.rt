@@ -154,7 +154,7 @@ fn put_region<K: Sink>(
     put_each_threat(places, before, threats, sink)
 }
 
-/// Writes the regions with their threats. Each threat is looked at once.
+/// Writes the regions with their threats, and what is left behind the last one. Each threat is looked at once.
 fn put_regions<K: Sink>(
     places: &[Place],
     tables: &[RegionTable],
@@ -172,7 +172,7 @@ fn put_regions<K: Sink>(
         }
         before = end;
     }
-    Ok(())
+    put_each_threat(places, before, &threats[before..], sink)
 }
 
 fn is_refuted(verdict: &Verdict) -> bool

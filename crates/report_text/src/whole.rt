@@ -4,9 +4,9 @@ ghost use Rattle.report_text.specs.Report.{parts_text, report_text};
 
 use crate::head::{put_end, put_head};
 use crate::part::put_part;
-use crate::selection::Selection;
 use il_edge::{Failed, Sink};
 use report::{ProcReport, Report, status_of};
+use request::Selection;
 
 fn put_parts<K: Sink>(
     procs: &[ProcReport],

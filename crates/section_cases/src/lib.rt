@@ -1,8 +1,6 @@
-//! Worked cases of the texts of normal terms and literals, and of the sections of a report on tables and threats, tried
-//! through their public calls. Nothing but tests stands here, so that no layer is proved with its tests.
+//! Worked cases of the sections of a report on tables and threats, and of a whole report, tried through the public calls
+//! that write them. Nothing but tests stands here, so that the layer is not proved with its tests.
 #![tactic(auto)]
 
-#[cfg(test)]
-mod forms;
 #[cfg(test)]
 mod regions;

@@ -110,21 +110,22 @@ fn rows_within(
 ///
 /// It walks down the tree of decisions once: a comparison is substituted and brought to its form once for all paths that
 /// share it, and a prefix that is plainly refuted gives up all paths below it. A decision takes at most two solvings by
-/// `least_input`; a row takes as many steps as its literals and values have parts. The stack holds at most two calls for
-/// each decision of a path and one for each of its lines and assignments: with at most 16,384 paths, of which each
-/// decision begins another, about 33,000 for the decisions and two for each line.
+/// `least_input`; a row takes as many steps as its literals and values have parts. The stack holds two calls for each
+/// decision of a path and one for each of its lines and assignments. Each decision has another side with a path of its
+/// own, on which all decisions before it stand too, so by the limit on nodes a path has fewer than 1,450 decisions: with
+/// 1,000 lines that is less than 5,000 calls.
 pub fn table(
     alloc: Global,
     proc: &CheckedProc,
     graph: &TestGraph,
     control: &Control,
-    _derivation: &Derivation,
+    derivation: &Derivation,
     pc: usize,
 ) -> Result<TableOr, NoMemory>
     requires lowered { IsLowered (procedure_of proc.now) graph.now }
     requires control { IsControlOf (graph_of (procedure_of proc.now)) control.now }
     requires shape { control.now.shape ≡ Reducible }
-    requires derivation { IsDerivationOf (graph_of (procedure_of proc.now)) control.now.shape _derivation.now }
+    requires derivation { IsDerivationOf (graph_of (procedure_of proc.now)) control.now.shape derivation.now }
     requires first { IsIn (first_lines control.now.loops) pc }
     ensures rows { IfOk result (IsTable (procedure_of proc.now) control.now.loops pc) }
     ensures one { IfOk result (OneRowEach (procedure_of proc.now) control.now.loops pc) }
@@ -145,13 +146,13 @@ pub fn long_rows(
     proc: &CheckedProc,
     graph: &TestGraph,
     control: &Control,
-    _derivation: &Derivation,
+    derivation: &Derivation,
     pc: usize,
 ) -> Result<TableOr, NoMemory>
     requires lowered { IsLowered (procedure_of proc.now) graph.now }
     requires control { IsControlOf (graph_of (procedure_of proc.now)) control.now }
     requires shape { control.now.shape ≡ Reducible }
-    requires derivation { IsDerivationOf (graph_of (procedure_of proc.now)) control.now.shape _derivation.now }
+    requires derivation { IsDerivationOf (graph_of (procedure_of proc.now)) control.now.shape derivation.now }
     requires first { IsIn (first_lines control.now.loops) pc }
     ensures rows { IfOk result (IsLongTable (procedure_of proc.now) control.now.loops pc) }
     ensures one { IfOk result (OneLongRowEach (procedure_of proc.now) control.now.loops pc) }

@@ -17,6 +17,23 @@ fn tests_of(alloc: Global, count: u64) -> Result<String, AllocError> {
     Ok(text)
 }
 
+/// Sixty-four places, and a test of each of the first so many of them.
+fn own_tests_of(alloc: Global, count: u64) -> Result<String, AllocError> {
+    let mut text = String::new(alloc);
+    text.push_str("TITLE t; PROC p;\n")?;
+    for place in 0..64u64 {
+        let declaration = format!(in alloc; "IN v{place} : 0 .. 99;\n")?;
+        text.push_str(declaration.as_str())?;
+    }
+    text.push_str("PRE TRUE; POST TRUE;\n")?;
+    for place in 0..count {
+        let test = format!(in alloc; "IF v{place} >= 50; SKIP; ENDIF;\n")?;
+        text.push_str(test.as_str())?;
+    }
+    text.push_str("ENDPROC; FINISH;")?;
+    Ok(text)
+}
+
 /// A line that is repeated, and a last line, over one place.
 fn lines_of(alloc: Global, count: u64, line: &str, last: &str) -> Result<String, AllocError> {
     let mut text = String::new(alloc);
@@ -58,6 +75,16 @@ fn tests_in_a_row_have_one_row_more(rt: HostRuntime) -> Result<(), Fail> {
         let found = count_of(rt.alloc(), text.as_str(), *asked)?;
         assert_eq!(rt; found.as_str(), *wanted);
     }
+    Ok(())
+}
+
+#[test]
+fn tests_of_their_own_places_have_all_rows(rt: HostRuntime) -> Result<(), Fail> {
+    let text = own_tests_of(rt.alloc(), 14)?;
+    let long = count_of(rt.alloc(), text.as_str(), Asked::Long)?;
+    assert_eq!(rt; long.as_str(), "16384");
+    let table = count_of(rt.alloc(), text.as_str(), Asked::Table)?;
+    assert_eq!(rt; table.as_str(), "16384");
     Ok(())
 }
 

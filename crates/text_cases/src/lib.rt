@@ -9,7 +9,8 @@ mod reports;
 #[cfg(test)]
 mod sections;
 #[cfg(test)]
-mod tables;
+mod status;
 #[cfg(test)]
+mod whole;
 #[cfg(test)]
 mod written;

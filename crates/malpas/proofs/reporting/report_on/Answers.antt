@@ -18,12 +18,12 @@ returns-clause-written g c =
           let full : 0 < length text.procs = omega (arith, same, c.profile.ensures.checked.some_procedures) in
           let whole : length report.procs ≡ length text.procs = omega (arith, same, sent.0) in
           rw (w.sink-is, w.status-is, given report c.is_empty-reported.result c.then_some.result gives empty.0 (omega (arith, full, whole)))
-          (ended _ _ _ _ _ _ _ _ text report _ full whole sent.1 w.write_end-status.ensures.sent w.write_end-status.ensures.low c.write_parts.ensures.later)
+          (ended c.args.selection _ _ _ _ _ _ _ _ text report _ full whole sent.1 w.write_end-status.ensures.sent w.write_end-status.ensures.low c.write_parts.ensures.later)
       | in-Err-Failed w ↦
           let cut = rw w.in-Err-Failed.field-0-is at w.in-Err-Failed.ensures.sent in
-          rw (w.sink-is, given report c.is_empty-reported.result c.then_some.result gives empty.0 cut.some) (ended_in _ _ _ _ _ text report _ w.status-is cut)
+          rw (w.sink-is, given report c.is_empty-reported.result c.then_some.result gives empty.0 cut.some) (ended_in c.args.selection _ _ _ _ _ text report _ w.status-is cut)
       | in-Err-NoMemory w ↦
           let sent = rw w.in-Err-NoMemory.field-0-is at w.in-Err-NoMemory.ensures.sent in
           let fewer : length report.procs < length text.procs = omega (arith, same, sent.0) in
-          rw w.sink-is (ended_short _ _ _ _ _ text report c.is_empty-reported.result c.then_some.result _ w.status-is gives empty.1 fewer sent.1)
+          rw w.sink-is (ended_short c.args.selection _ _ _ _ _ text report c.is_empty-reported.result c.then_some.result _ w.status-is gives empty.1 fewer sent.1)
     ]

@@ -9,7 +9,7 @@ loop-proc-init g c = record {
   so_far = record {
     told_of = told_none _ _ c.requires.title c.requires.profile c.requires.none;
     made = ap length c.requires.none;
-    sent = sent_none _ _ _ c.requires.none;
+    sent = sent_none c.args.selection _ _ _ c.requires.none;
     told = refl;
     later = omega arith;
   };
@@ -27,7 +27,7 @@ pub returns-in-Err-write_next-clause-sent : goal.returns-in-Err-write_next-claus
 returns-in-Err-write_next-clause-sent g c =
     let done = c.loop-proc.invariant.so_far in
     let sent = c.in-Err-write_next.ensures.sent in
-    cut_in _ _ _ _ _ _ _ _ c.loop-proc.report (record c.loop-proc.report { procs = c.push.new.self }) c.in-Ok.part refl refl c.in-Ok-push.ensures.ok done.sent sent.0 sent.1 done.later sent.2
+    cut_in c.args.selection _ _ _ _ _ _ _ _ c.loop-proc.report (record c.loop-proc.report { procs = c.push.new.self }) c.in-Ok.part refl refl c.in-Ok-push.ensures.ok done.sent sent.0 sent.1 done.later sent.2
 
 pub loop-proc-preserved : goal.loop-proc-preserved
 loop-proc-preserved g c =
@@ -41,7 +41,7 @@ loop-proc-preserved g c =
             (c.as_slice-proc-items.ensures ∙ c.procs.ensures.value) c.loop-proc-test.true c.proc-item.is done.made done.told_of
             c.in-Ok.ensures.report c.in-Ok.ensures.runs refl refl pushed;
         made = longer;
-        sent = sent_more _ _ _ _ _ c.loop-proc.report (record c.loop-proc.report { procs = c.push.new.self }) c.in-Ok.part refl refl pushed done.sent sent.0 sent.1;
+        sent = sent_more c.args.selection _ _ _ _ _ c.loop-proc.report (record c.loop-proc.report { procs = c.push.new.self }) c.in-Ok.part refl refl pushed done.sent sent.0 sent.1;
         told = c.write_next.ensures.told ∙ done.told;
         later = omega (arith, done.later, c.write_next.ensures.later);
       };

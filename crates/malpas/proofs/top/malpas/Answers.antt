@@ -1,12 +1,8 @@
-use Rattle.il_core.specs.Text.{text_of}
-use Rattle.malpas.proofs.Outcomes.{reported, not_silent}
+use Rattle.std.specs.Prelude.{map, string_bytes}
+use Rattle.malpas.proofs.Summed.{asked_made}
 use Rattle.malpas.proofs.top.malpas.Goals as goal
 
-pub returns-in-Accepted-clause-headline : goal.returns-in-Accepted-clause-headline
-returns-in-Accepted-clause-headline g c =
-    reported _ _ _ _ _ _ _ (text_of c.in-Accepted.text) c.report_on.result.report c.report_on.result.status c.in-Accepted.ensures.judged.0 c.in-Accepted.ensures.judged.1
-    c.report_on.ensures.told_of c.report_on.ensures.written
-
-pub returns-in-Accepted-clause-part : goal.returns-in-Accepted-clause-part
-returns-in-Accepted-clause-part g c = λ four none.
-    absurd (not_silent _ _ _ _ _ (text_of c.in-Accepted.text) c.report_on.result.report c.report_on.result.status c.report_on.ensures.written four none)
+pub returns-in-Some-generate-clause-headline : goal.returns-in-Some-generate-clause-headline
+returns-in-Some-generate-clause-headline g c =
+    asked_made (map string_bytes c.args.words.now) c.in-Some.request c.in-Some-generate.number _ _ _ _ c.answer_made.result.report c.answer_made.result.status
+    c.in-Some.ensures c.in-Some-generate.is c.answer_made.ensures.headline

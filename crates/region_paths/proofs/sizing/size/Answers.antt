@@ -24,7 +24,7 @@ follow-within-requires-clause-stands c =
 
 pub follow-within-requires-clause-leading : goal.follow-within-requires-clause-leading
 follow-within-requires-clause-leading c =
-    subst (LeadInside (procedure_of c.args.proc.now)) (sym c.as_slice.ensures) (lead_inside (procedure_of c.args.proc.now) c.args.control.now c.requires.control)
+    subst (LeadInside (procedure_of c.args.proc.now)) (sym c.as_slice-loops.ensures) (lead_inside (procedure_of c.args.proc.now) c.args.control.now c.requires.control)
 
 pub follow-within-requires-clause-size : goal.follow-within-requires-clause-size
 follow-within-requires-clause-size c =
@@ -41,7 +41,7 @@ returns-then-within c =
     c.deref_mut.ensures.value ∙ c.in_ok-sizes.ensures.sizes ∙ ap (λ (k : ℕ). map measured (own_values k)) count in
     let room : c.len.result ≡ length (procedure_of c.args.proc.now).lines = c.len.ensures ∙ ap length c.lines.ensures.value ∙ sym (length-map c.args.proc.now.lines instruction_of) in
     subst (IsPast (procedure_of c.args.proc.now) c.args.control.now.loops c.args.pc) (sym c.limit.ensures)
-    (past_from (procedure_of c.args.proc.now) c.args.control.now.loops c.args.pc (Some c.follow-within.new.tally) c.as_slice.result.now c.len.result c.empty-tally.result c.paths_are_listed.ensures b c.as_slice.ensures room c.empty-tally.ensures
+    (past_from (procedure_of c.args.proc.now) c.args.control.now.loops c.args.pc (Some c.follow-within.new.tally) c.as_slice-loops.result.now c.len.result c.empty-tally.result c.paths_are_listed.ensures b c.as_slice-loops.ensures room c.empty-tally.ensures
     (is_some c.follow-within.result c.follow-within.new.tally _ c.if-within.true
     (c.follow-within.ensures.exact (own_values (length c.args.proc.now.places)) (decision_at (procedure_of c.args.proc.now) c.args.pc) (sym sizes) c.first_node-first.ensures.unfolds)))
 
@@ -52,7 +52,7 @@ returns c =
     let sizes : c.deref_mut.result.now ≡ map measured (own_values (length c.args.proc.now.places)) =
     c.deref_mut.ensures.value ∙ c.in_ok-sizes.ensures.sizes ∙ ap (λ (k : ℕ). map measured (own_values k)) count in
     let room : c.len.result ≡ length (procedure_of c.args.proc.now).lines = c.len.ensures ∙ ap length c.lines.ensures.value ∙ sym (length-map c.args.proc.now.lines instruction_of) in
-    past_from (procedure_of c.args.proc.now) c.args.control.now.loops c.args.pc None c.as_slice.result.now c.len.result c.empty-tally.result c.paths_are_listed.ensures b c.as_slice.ensures room c.empty-tally.ensures
+    past_from (procedure_of c.args.proc.now) c.args.control.now.loops c.args.pc None c.as_slice-loops.result.now c.len.result c.empty-tally.result c.paths_are_listed.ensures b c.as_slice-loops.ensures room c.empty-tally.ensures
     (is_none c.follow-within.result c.follow-within.new.tally _ c.if-within.false
     (c.follow-within.ensures.exact (own_values (length c.args.proc.now.places)) (decision_at (procedure_of c.args.proc.now) c.args.pc) (sym sizes) c.first_node-first.ensures.unfolds))
 

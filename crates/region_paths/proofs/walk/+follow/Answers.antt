@@ -16,6 +16,7 @@ use Rattle.il_core.specs.LineGraph.{IsIn}
 use Rattle.region_paths.specs.Region.{leading_of}
 use Rattle.region_paths.proofs.Nodes.{node_there, at_line}
 use Rattle.region_paths.proofs.Walking.{on_true, is_some, is_none, test_none, test_some, measured_changed, assign_exact, line_exact, stop_exact, stands_met, stands_unmet, compared_places, stands_then, assigned_places, line_less_at, put_back, beyond, at_head, no_room, more_room, same_below, stands_first, in_at, line_unfolds}
+use Rattle.region_paths.proofs.LoopHeads.{loop_told}
 use Rattle.region_paths.proofs.walk.+follow.Goals as goal
 
 pub follow-requires : goal.follow-requires
@@ -24,7 +25,7 @@ follow-requires t c =
     let node : slice_get c.args.graph.now.nodes c.args.id ≡ Some (Test c.in-Some-Test.literal c.in-Some-Test.met c.in-Some-Test.unmet) = cc (v, c.in-Some-Test.field-0-is) in
     let stands = stands_met (procedure_of c.args.proc.now) c.args.graph.now c.args.id c.in-Some-Test.literal c.in-Some-Test.met c.in-Some-Test.unmet c.requires.lowered node c.requires.stands in
     let less = (c.requires.lowered.falls c.args.id _ node).0 in
-    (omega (arith, less, c.decreases), (c.requires.checked, (c.requires.lowered, (stands, (c.requires.leading, (c.requires.size, (c.requires.capped, c.requires.tally)))))))
+    (omega (arith, less, c.decreases), (c.requires.checked, (c.requires.lowered, (stands, (c.requires.leading, (c.requires.heads, (c.requires.size, (c.requires.capped, c.requires.tally))))))))
 
 pub follow-requires-in-Some-Test : goal.follow-requires-in-Some-Test
 follow-requires-in-Some-Test t c =
@@ -33,7 +34,7 @@ follow-requires-in-Some-Test t c =
     let stands = stands_unmet (procedure_of c.args.proc.now) c.args.graph.now c.args.id c.in-Some-Test.literal c.in-Some-Test.met c.in-Some-Test.unmet c.requires.lowered node c.requires.stands in
     let less = (c.requires.lowered.falls c.args.id _ node).1 in
     let same = c.follow.ensures.env in
-    (omega (arith, less, c.decreases), (c.requires.checked, (c.requires.lowered, (stands, (c.requires.leading, (ap length same ∙ c.requires.size, (subst (All IsCapped) (sym same) c.requires.capped, (on_true c.follow.result (IsGrown c.args.tally.now c.follow.new.tally) c.if-not-follow.false c.follow.ensures.grown).sound)))))))
+    (omega (arith, less, c.decreases), (c.requires.checked, (c.requires.lowered, (stands, (c.requires.leading, (c.requires.heads, (ap length same ∙ c.requires.size, (subst (All IsCapped) (sym same) c.requires.capped, (on_true c.follow.result (IsGrown c.args.tally.now c.follow.new.tally) c.if-not-follow.false c.follow.ensures.grown).sound))))))))
 
 pub comparison_measure-requires-clause-places : goal.comparison_measure-requires-clause-places
 comparison_measure-requires-clause-places t c =
@@ -66,7 +67,7 @@ follow-within-requires t c =
     let less = c.requires.lowered.falls c.args.id _ node in
     let size : length c.exchange-was.new.env ≡ length c.args.proc.now.places =
     ap length c.exchange-was.ensures.after ∙ length-set c.args.env.now c.in-Some-Assign.place c.measure-size.result ∙ c.requires.size in
-    (omega (arith, less, c.decreases), (c.requires.checked, (c.requires.lowered, (stands, (c.requires.leading, (size, (c.exchange-was.ensures.sound, c.requires.tally)))))))
+    (omega (arith, less, c.decreases), (c.requires.checked, (c.requires.lowered, (stands, (c.requires.leading, (c.requires.heads, (size, (c.exchange-was.ensures.sound, c.requires.tally))))))))
 
 pub exchange-requires-clause-place : goal.exchange-requires-clause-place
 exchange-requires-clause-place t c =
@@ -160,11 +161,19 @@ returns-in-Some-Stop-clause-exact t c =
     (outcome c.add_path-in-Some-Stop.result c.add_path-in-Some-Stop.new.self) c.requires.lowered node u c.add_path-in-Some-Stop.ensures.exact
 
 pub leading_at-requires : goal.leading_at-requires
-leading_at-requires t c = let k = c.in-Some.ensures in slice_get_within c.args.loops.now c.in-Some.at k.0 k.1
+leading_at-requires t c =
+    let v = c.in-Some-AtLine.ensures.value in
+    let node : slice_get c.args.graph.now.nodes c.args.id ≡ Some (AtLine c.in-Some-AtLine.line c.in-Some-AtLine.first) = cc (v, c.in-Some-AtLine.field-0-is) in
+    let k = loop_told (procedure_of c.args.proc.now) c.args.loops.now c.args.graph.now c.args.id c.in-Some-AtLine.line c.in-Some-AtLine.first c.requires.stands.decision c.args.heads.now (Some c.in-Some.at)
+    c.requires.lowered node c.requires.stands.unfolds c.requires.heads c.in-Some.ensures in
+    slice_get_within c.args.loops.now c.in-Some.at k.0 k.1
 
 pub follow_leading-requires-clause-left : goal.follow_leading-requires-clause-left
 follow_leading-requires-clause-left t c =
-    let k = c.in-Some.ensures in
+    let v = c.in-Some-AtLine.ensures.value in
+    let node : slice_get c.args.graph.now.nodes c.args.id ≡ Some (AtLine c.in-Some-AtLine.line c.in-Some-AtLine.first) = cc (v, c.in-Some-AtLine.field-0-is) in
+    let k = loop_told (procedure_of c.args.proc.now) c.args.loops.now c.args.graph.now c.args.id c.in-Some-AtLine.line c.in-Some-AtLine.first c.requires.stands.decision c.args.heads.now (Some c.in-Some.at)
+    c.requires.lowered node c.requires.stands.unfolds c.requires.heads c.in-Some.ensures in
     let e = c.leading_at.ensures k.0 k.1 in
     λ q i. c.requires.leading k.0 (in_at c.args.loops.now c.in-Some.at k.0 k.1) q (subst (λ (ls : List ℕ). IsIn ls q) e i)
 
@@ -179,13 +188,14 @@ follow-requires-else-room-eq0 t c =
     let longer : c.args.room ≡ suc (c.args.room - 1) = omega (arith, some) in
     let less : (c.args.room - 1) * (length c.args.graph.now.nodes + 1) + c.in-Some-AtLine.first < c.args.room * (length c.args.graph.now.nodes + 1) + c.args.id =
     line_less_at c.args.room (c.args.room - 1) (length c.args.graph.now.nodes + 1) c.in-Some-AtLine.first c.args.id longer (omega (arith, low)) in
-    (omega (arith, less, c.decreases), (c.requires.checked, (c.requires.lowered, (stands, (c.requires.leading, (c.requires.size, (c.requires.capped, c.requires.tally)))))))
+    (omega (arith, less, c.decreases), (c.requires.checked, (c.requires.lowered, (stands, (c.requires.leading, (c.requires.heads, (c.requires.size, (c.requires.capped, c.requires.tally))))))))
 
 pub returns-in-Some-clause-exact : goal.returns-in-Some-clause-exact
 returns-in-Some-clause-exact t c = λ terms d e u.
     let v = c.in-Some-AtLine.ensures.value in
     let node : slice_get c.args.graph.now.nodes c.args.id ≡ Some (AtLine c.in-Some-AtLine.line c.in-Some-AtLine.first) = cc (v, c.in-Some-AtLine.field-0-is) in
-    let k = c.in-Some.ensures in
+    let k = loop_told (procedure_of c.args.proc.now) c.args.loops.now c.args.graph.now c.args.id c.in-Some-AtLine.line c.in-Some-AtLine.first d c.args.heads.now (Some c.in-Some.at)
+    c.requires.lowered node u c.requires.heads c.in-Some.ensures in
     let same : c.leading_at.result.now ≡ leading_of c.args.loops.now c.in-Some-AtLine.line = c.leading_at.ensures k.0 k.1 ∙ sym k.3 in
     let is = at_line (procedure_of c.args.proc.now) c.args.graph.now c.args.id c.in-Some-AtLine.line c.in-Some-AtLine.first d c.requires.lowered node u in
     c.follow_leading.ensures.exact c.in-Some-AtLine.line terms d e u
@@ -198,7 +208,7 @@ returns-then-room-eq0-clause-exact t c = λ terms d e u.
     let v = c.in-Some-AtLine.ensures.value in
     let node : slice_get c.args.graph.now.nodes c.args.id ≡ Some (AtLine c.in-Some-AtLine.line c.in-Some-AtLine.first) = cc (v, c.in-Some-AtLine.field-0-is) in
     line_exact (procedure_of c.args.proc.now) c.args.graph.now (beyond (procedure_of c.args.proc.now) c.args.loops.now c.args.room) c.args.id c.in-Some-AtLine.line c.in-Some-AtLine.first d terms c.args.tally.now (outcome c.add_path.result c.add_path.new.self) c.requires.lowered node u
-    (c.add_path.ensures.exact ∙ no_room (procedure_of c.args.proc.now) c.args.loops.now c.args.room c.in-Some-AtLine.line terms c.args.tally.now c.in-None-loop_of.ensures c.if-room-eq0.true)
+    (c.add_path.ensures.exact ∙ no_room (procedure_of c.args.proc.now) c.args.loops.now c.args.room c.in-Some-AtLine.line terms c.args.tally.now (loop_told (procedure_of c.args.proc.now) c.args.loops.now c.args.graph.now c.args.id c.in-Some-AtLine.line c.in-Some-AtLine.first d c.args.heads.now None c.requires.lowered node u c.requires.heads c.in-None-loop_at.ensures) c.if-room-eq0.true)
 
 pub returns-else-room-eq0-clause-exact : goal.returns-else-room-eq0-clause-exact
 returns-else-room-eq0-clause-exact t c = λ terms d e u.
@@ -209,4 +219,4 @@ returns-else-room-eq0-clause-exact t c = λ terms d e u.
     let unfolds = line_unfolds (procedure_of c.args.proc.now) c.args.graph.now c.args.id c.in-Some-AtLine.line c.in-Some-AtLine.first d c.requires.lowered node u in
     line_exact (procedure_of c.args.proc.now) c.args.graph.now (beyond (procedure_of c.args.proc.now) c.args.loops.now c.args.room) c.args.id c.in-Some-AtLine.line c.in-Some-AtLine.first d terms c.args.tally.now (outcome c.follow-else-room-eq0.result c.follow-else-room-eq0.new.tally) c.requires.lowered node u
     (c.follow-else-room-eq0.ensures.exact terms (decision_at (procedure_of c.args.proc.now) c.in-Some-AtLine.line) e unfolds
-    ∙ more_room (procedure_of c.args.proc.now) c.args.loops.now c.args.room (c.args.room - 1) c.in-Some-AtLine.line terms c.args.tally.now c.in-None-loop_of.ensures (omega (arith, some)))
+    ∙ more_room (procedure_of c.args.proc.now) c.args.loops.now c.args.room (c.args.room - 1) c.in-Some-AtLine.line terms c.args.tally.now (loop_told (procedure_of c.args.proc.now) c.args.loops.now c.args.graph.now c.args.id c.in-Some-AtLine.line c.in-Some-AtLine.first d c.args.heads.now None c.requires.lowered node u c.requires.heads c.in-None-loop_at.ensures) (omega (arith, some)))

@@ -24,3 +24,4 @@ returns-in-Err g c =
 
 pub returns : goal.returns
 returns g c = all_written c.args.places.now c.args.tables.now c.args.threats.now c.loop-table.table-index c.loop-table.before c.loop-table-test.false c.loop-table.invariant
+    (rw (tail_of c.args.threats.now c.loop-table.before) at c.put_each_threat.ensures)

@@ -1,27 +1,15 @@
-//! The sections on tables and threats of a report that is made by hand, and the status that they give it.
+//! The status of reports that are made by hand.
 use compliance::{Threat, Verdict};
 use control_flow::{Control, Shape};
 use il_core::{Halt, List, Mode, Name, Place, Relation, Stop};
-use il_edge::SureSink;
 use interval_reduce::Derivation;
 use path_expr::{PathReport, Ref};
 use region_paths::Limit;
 use report::{Analyses, ProcReport, RegionTable, Report, status_of};
-use report_text::{Selection, put_part};
 use semantic_tables::{Row, TableOr};
 use std::alloc::Global;
 use std::test::Fail;
 use sym_simplify::{Atom, Kept, LitForm, Normal, Part};
-
-/// The sections on tables and threats.
-const TABLES: Selection = Selection {
-    control: false,
-    usage: false,
-    flow: false,
-    paths: false,
-    semantic: true,
-    compliance: true,
-};
 
 fn place(name: Name, old: bool) -> Place {
     Place {
@@ -107,38 +95,6 @@ fn part(alloc: Global, body: TableOr, threats: List<Threat>) -> Result<ProcRepor
             threats,
         }),
     })
-}
-
-#[test]
-fn writes_tables_and_threats(rt: HostRuntime) -> Result<(), Fail> {
-    let alloc = rt.alloc();
-    let shown = Verdict::Shown(List::from_vec(vec![in alloc; 9, 7]?));
-    let threats = vec![in alloc;
-        threat(alloc, Verdict::Refuted)?,
-        threat(alloc, shown)?,
-        threat(alloc, Verdict::Open(0))?,
-    ]?;
-    let told = part(alloc, table(alloc)?, List::from_vec(threats))?;
-    let mut sink = SureSink::new(alloc, 500)?;
-    put_part(&told, TABLES, &mut sink)?;
-    assert_eq!(rt;
-        sink.held(),
-        b"PROCEDURE p LINES 3\nSEMANTIC\nREGION L0\nROW 1 PATH T\nIF b <= 8\nSTOP END\nb := b + 1\nCOMPLIANCE\nREGION L0\nTHREAT 1 PATH F STOP RANGE L1 FALSE\nTHREAT 2 PATH F STOP RANGE L1 SHOWN b = 9, OLD b = 7\nTHREAT 3 PATH F STOP RANGE L1 OPEN b > 8\nTHREATS 3 FALSE 1 SHOWN 1 OPEN 1 PAST 0\n".as_slice()
-    );
-    Ok(())
-}
-
-#[test]
-fn writes_a_table_past_its_size(rt: HostRuntime) -> Result<(), Fail> {
-    let alloc = rt.alloc();
-    let told = part(alloc, TableOr::Past(Limit::Depth), List::new(alloc))?;
-    let mut sink = SureSink::new(alloc, 500)?;
-    put_part(&told, TABLES, &mut sink)?;
-    assert_eq!(rt;
-        sink.held(),
-        b"PROCEDURE p LINES 3\nSEMANTIC\nREGION L0 PAST DEPTH\nCOMPLIANCE\nREGION L0 PAST DEPTH\nTHREATS 0 FALSE 0 SHOWN 0 OPEN 0 PAST 1\n".as_slice()
-    );
-    Ok(())
 }
 
 /// The status of the report of one procedure with this table and this threat.
