@@ -1,4 +1,3 @@
-pub mod Pieces
 pub mod Sections
 pub mod Path
 pub mod Tables

@@ -2,10 +2,10 @@
 //! line with the status: [`put_head`], [`put_part`] and [`put_end`] write them, and [`put`] writes them all. A part has
 //! the sections that are selected: the control structure with the reduction by intervals, the use of variables, the flow
 //! of information, the paths, the tables of the regions, and the threats with their verdicts. [`put_refusal`] writes the
-//! one line of a refused text, and [`put_words`] the one line that answers words that are not understood. Each text is a definition of
-//! its own, a list of bytes made of pieces: fixed words, names, and numbers by their decimal text. A call sends the
-//! pieces to a sink one after the other. It takes no memory, costs time linear in the text, leaves what is settled as it
-//! was, and after a fault of the sink has written a prefix of the text.
+//! one line of a refused text, and [`put_words`] the one line that answers words that are not understood. Each text is a
+//! definition of its own, a list of bytes made of pieces: fixed words, names, and numbers by their decimal text. A call
+//! sends the pieces to a sink one after the other. It takes no memory, costs time linear in what it is given and in the
+//! text, leaves what is settled as it was, and after a fault of the sink has written a prefix of the text.
 #![tactic(auto)]
 
 mod control;
