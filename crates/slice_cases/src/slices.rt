@@ -5,13 +5,13 @@ ghost use Rattle.flow_graph.specs.Graph.{graph_of, IsWellFormed, HasPlaces};
 ghost use Rattle.flow_graph.specs.Reached.{IsInnerOrder};
 ghost use Rattle.info_flow.specs.Variable.{IsVariable};
 
+use acceptance::accept;
 use control_flow::{Shape, control_of};
 use flow_graph::{FlowGraph, build};
 use flow_slice::{SlicedProc, slice, slices_are_checked, slices_end_alike};
 use il_core::{CheckedProc, Expr, Line, List, NoMemory, TextEnd};
 use info_flow::relevant;
 use interval_reduce::derive;
-use acceptance::accept;
 use std::alloc::Global;
 use std::test::Fail;
 
