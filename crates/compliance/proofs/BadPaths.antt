@@ -23,9 +23,10 @@ use Rattle.test_graph.specs.Laws.{WaysGoAlongArcs}
 use Rattle.region_paths.specs.Region.{AreRegions, is_head, leading_of}
 use Rattle.region_paths.specs.Chain.{IsLongChain, Onward, Leads, Passes}
 use Rattle.region_paths.specs.PlainRow.{PlainRow}
-use Rattle.region_paths.specs.Listing.{RegionPath, IsLongPath, Ascend, AreLongPaths}
+use Rattle.region_paths.specs.Listing.{RegionPath, IsLongPath, Ascend, ListsPaths}
+use Rattle.semantic_tables.specs.Hazards.{stops_badly, IsHazard}
 use Rattle.compliance.specs.Opening.{opened_by, opening, StayWithin}
-use Rattle.compliance.specs.Threat.{stops_badly, IsThreat, AreThreats}
+use Rattle.compliance.specs.Threat.{IsThreat, AreThreats}
 use Rattle.compliance.specs.Behind.{left_behind, none_or, ends_within, bad_halt, is_bad_behind}
 use Rattle.compliance.proofs.Members.{from_filter}
 use Rattle.compliance.proofs.QuietLines.{kind_there}
@@ -225,15 +226,15 @@ ascend-filter test (y ∷ xs) a = by_test (test y) (ascend-filter test xs a.1)
     by_test true k = (λ q i. a.0 q (from_filter test xs q i).0, k)
     by_test false k = k
 
--- the threats of a region are its long paths that halt badly behind its leading assertions
-pub threats_filtered : (p : Procedure) (loops : List LoopInfo) (pc : ℕ) (rows : List RegionPath) → WaysGoAlongArcs → AreRegions p loops → AreLongPaths p loops pc rows
+-- the threats of a region are its hazards that halt badly behind its leading assertions
+pub threats_filtered : (p : Procedure) (loops : List LoopInfo) (pc : ℕ) (rows : List RegionPath) → WaysGoAlongArcs → AreRegions p loops → ListsPaths (IsHazard p loops pc) rows
     → AreThreats p loops pc (filter (is_bad_behind p (leading_of loops pc)) rows)
 threats_filtered p loops pc rows arcs regions l = record {
   ordered = ascend-filter (is_bad_behind p (leading_of loops pc)) rows l.ordered;
   each = λ r. (
     λ i.
         let t = from_filter (is_bad_behind p (leading_of loops pc)) rows r i in
-        bad_is_threat p loops pc r arcs regions ((l.each r).0 t.0) t.1,
-    λ t. to_filter (is_bad_behind p (leading_of loops pc)) rows r ((l.each r).1 t.path) (threat_is_bad p loops pc r arcs regions t),
+        bad_is_threat p loops pc r arcs regions ((l.each r).0 t.0).0 t.1,
+    λ t. to_filter (is_bad_behind p (leading_of loops pc)) rows r ((l.each r).1 (t.path, t.bad)) (threat_is_bad p loops pc r arcs regions t),
   );
 }

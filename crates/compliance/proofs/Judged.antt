@@ -11,7 +11,7 @@ use Rattle.sym_simplify.specs.declared.normal.LitForm.{LitForm}
 use Rattle.region_paths.specs.Listing.{RegionPath}
 use Rattle.path_inputs.specs.Core.{IsLoose}
 use Rattle.path_inputs.specs.Least.{IsPlainlyRefuted, IsLeastInput}
-use Rattle.semantic_tables.specs.Row.{NormalRow, forms_of, row_of, normal_row}
+use Rattle.semantic_tables.specs.Row.{NormalRow, forms_of, row_of, bare_row}
 use Rattle.semantic_tables.specs.declared.row.Row.{Row}
 use Rattle.compliance.specs.Laws.{ThreatsAreTakenSoon, OpenThreatsAreLoose}
 use Rattle.compliance.specs.Behind.{IsThreatRow}
@@ -25,7 +25,7 @@ pub record Tells (row : Row) (r : RegionPath) : Type 0 where
   pub forms : forms_of r ≡ map literal_form_of row.literals
   pub stop : r.stop ≡ row.stop
 
-pub tells : (row : Row) (r : RegionPath) → row_of row ≡ normal_row r → Tells row r
+pub tells : (row : Row) (r : RegionPath) → row_of row ≡ bare_row r → Tells row r
 tells row r e = record {
   path = sym (ap (λ (x : NormalRow). x.path) e);
   forms = sym (ap (λ (x : NormalRow). x.literals) e);
@@ -43,19 +43,19 @@ taken_so : (p : Procedure) (pc : ℕ) (s : State) (row : Row) (h : Halt) (r : Re
     → TakesPath p pc s r
 taken_so p pc s row h r k e n t = (n, h, k.stop ∙ e, subst (λ y. TakesDecisions p n pc s y h) (sym k.path) t)
 
-pub refuted : (p : Procedure) (pc : ℕ) (row : Row) (r : RegionPath) → IsPlainlyRefuted p.places pc (map literal_form_of row.literals) → row_of row ≡ normal_row r
+pub refuted : (p : Procedure) (pc : ℕ) (row : Row) (r : RegionPath) → IsPlainlyRefuted p.places pc (map literal_form_of row.literals) → row_of row ≡ bare_row r
     → HasVerdict p pc r Refuted
 refuted p pc row r k e = subst (IsPlainlyRefuted p.places pc) (sym (tells row r e).forms) k
 
 pub shown : (p : Procedure) (pc room : ℕ) (row : Row) (h : Halt) (s : State) (r : RegionPath) → IsLeastInput p.places pc (map literal_form_of row.literals) s → row.stop ≡ stop.Halted h
-    → TakesWithin p room pc s row.path h → row_of row ≡ normal_row r → HasVerdict p pc r (Shown s)
+    → TakesWithin p room pc s row.path h → row_of row ≡ bare_row r → HasVerdict p pc r (Shown s)
 shown p pc room row h s r k e t same =
     let m = tells row r same in
     (subst (λ x. IsLeastInput p.places pc x s) (sym m.forms) k, taken_so p pc s row h r m e t.0 t.2)
 
 -- a threat's least input that does not take it in few steps does not take it, so that it has a loose literal
 pub record StaysOpen (p : Procedure) (pc : ℕ) (row : Row) (s : State) : Type 0 where
-  pub untaken : (r : RegionPath) → row_of row ≡ normal_row r → TakesPath p pc s r → ⊥
+  pub untaken : (r : RegionPath) → row_of row ≡ bare_row r → TakesPath p pc s r → ⊥
   pub loose : (i : ℕ) × IsLoose (map literal_form_of row.literals) i
 
 pub stays_open : (p : Procedure) (pc : ℕ) (row : Row) (h : Halt) (s : State) → ThreatsAreTakenSoon → OpenThreatsAreLoose → IsThreatRow p pc row
@@ -76,14 +76,14 @@ stays_open p pc row h s soon loose k least e not = record { untaken = untaken; l
       t,
     )
 
-    untaken : (r : RegionPath) → row_of row ≡ normal_row r → TakesPath p pc s r → ⊥
+    untaken : (r : RegionPath) → row_of row ≡ bare_row r → TakesPath p pc s r → ⊥
     untaken r same t = let u = takes_same p pc s row h r (tells row r same) e t in never u.0 u.1
 
     first : (i : ℕ) × IsFirstLoose (forms_of k.path) i
     first = loose p k.loops pc k.path s k.begins k.threat own_least (untaken k.path k.told)
 
 pub open_at : (p : Procedure) (pc : ℕ) (row : Row) (s : State) (i : ℕ) (r : RegionPath) → StaysOpen p pc row s → IsLeastInput p.places pc (map literal_form_of row.literals) s
-    → IsFirstLoose (map literal_form_of row.literals) i → row_of row ≡ normal_row r → HasVerdict p pc r (Open i)
+    → IsFirstLoose (map literal_form_of row.literals) i → row_of row ≡ bare_row r → HasVerdict p pc r (Open i)
 open_at p pc row s i r k least first same =
     let m = tells row r same in
     (s, subst (λ x. IsLeastInput p.places pc x s) (sym m.forms) least, k.untaken r same, subst (λ x. IsFirstLoose x i) (sym m.forms) first)

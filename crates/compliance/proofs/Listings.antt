@@ -20,7 +20,8 @@ use Rattle.region_paths.specs.PlainRow.{PlainRow}
 use Rattle.region_paths.specs.Listing.{RegionPath, IsLongPath, Ascend, AreLongPaths}
 use Rattle.region_paths.specs.Laws.{BeginsRegion}
 use Rattle.compliance.specs.Opening.{opening, StayWithin}
-use Rattle.compliance.specs.Threat.{stops_badly, IsThreat, AreThreats}
+use Rattle.semantic_tables.specs.Hazards.{stops_badly}
+use Rattle.compliance.specs.Threat.{IsThreat, AreThreats}
 use Rattle.compliance.proofs.ShortPaths.{within_few, short_within}
 use Rattle.compliance.proofs.Taking.{path_of, along-path}
 use Rattle.compliance.proofs.TakenBack.{same_way, cancel}

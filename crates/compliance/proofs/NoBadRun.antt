@@ -45,7 +45,8 @@ use Rattle.path_inputs.specs.Core.{is_plain, is_disequality, core, core_disequal
 use Rattle.path_inputs.specs.Least.{Meets, IsPlainlyRefuted}
 use Rattle.compliance.specs.Opening.{opening, StayWithin}
 use Rattle.semantic_tables.specs.Row.{comparison_form, forms_of}
-use Rattle.compliance.specs.Threat.{stops_badly, IsThreat}
+use Rattle.semantic_tables.specs.Hazards.{stops_badly}
+use Rattle.compliance.specs.Threat.{IsThreat}
 use Rattle.compliance.specs.Laws.{ThreatsAreRefuted}
 use Rattle.compliance.proofs.CutRuns.{EndsWell, GoodPiece, cut_runs}
 use Rattle.compliance.proofs.Members.{from_filter, from_take}

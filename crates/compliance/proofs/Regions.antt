@@ -13,13 +13,13 @@ use Rattle.control_flow.specs.Control.{heads_of}
 use Rattle.control_flow.specs.declared.control.LoopInfo.{LoopInfo}
 use Rattle.test_graph.specs.Laws.{WaysGoAlongArcs}
 use Rattle.region_paths.specs.Region.{AreRegions, first_lines, leading_of}
-use Rattle.region_paths.specs.Listing.{RegionPath, IsLongPath}
+use Rattle.region_paths.specs.Listing.{RegionPath}
 use Rattle.region_paths.specs.Laws.{BeginsRegion}
 use Rattle.region_paths.specs.Size.{IsPast}
 use Rattle.region_paths.specs.declared.limit.Limit.{Limit}
 use Rattle.region_paths.proofs.Walking.{in_at}
-use Rattle.semantic_tables.specs.Row.{row_of, normal_row}
-use Rattle.semantic_tables.specs.Table.{AreRowsOf}
+use Rattle.semantic_tables.specs.Row.{row_of, bare_row}
+use Rattle.semantic_tables.specs.Hazards.{IsHazard, AreBareRowsOf}
 use Rattle.semantic_tables.specs.declared.row.Row.{Row}
 use Rattle.compliance.specs.Behind.{bad_halt, is_bad_behind, IsThreatRow, IsRegionTold, AddsRegion, AddsTold}
 use Rattle.compliance.specs.Opening.{opened_by}
@@ -35,10 +35,10 @@ abbrev pub AreThreatRows : Procedure → ℕ → List ℕ → List Row → Type 
 AreThreatRows p pc lines rows = All (λ (row : Row). (h : Halt) → bad_halt p lines row.stop row.path ≡ Some h → IsThreatRow p pc row) rows
 
 pub threat_rows : (p : Procedure) (loops : List LoopInfo) (pc : ℕ) (lines : List ℕ) (rows : List Row) → WaysGoAlongArcs → BeginsRegion p loops pc → lines ≡ leading_of loops pc
-    → AreRowsOf (IsLongPath p loops pc) rows → AreThreatRows p pc lines rows
+    → AreBareRowsOf (IsHazard p loops pc) rows → AreThreatRows p pc lines rows
 threat_rows p loops pc lines rows arcs b same k = λ j d low h bad.
     let u = path_at rows k.0 j (get_or rows j d) k.2 (slice_get-get_or rows j d low) in
-    let long = (k.1.each u.path).0 (in_at k.0 j u.path u.there) in
+    let long = ((k.1.each u.path).0 (in_at k.0 j u.path u.there)).0 in
     let told = ap (λ xs. is_bad_behind p xs u.path) (sym same) ∙ tested p lines (get_or rows j d) u.path (Some h) u.told bad in
     record { loops = loops; begins = b; path = u.path; threat = bad_is_threat p loops pc u.path arcs b.regions long told; told = u.told }
 
@@ -48,8 +48,8 @@ adds_none p loops pc limit found k = ([], sym (append-nil found), record { past 
 
 -- a region within its size adds its threats
 pub adds_threats : (p : Procedure) (loops : List LoopInfo) (pc : ℕ) (lines : List ℕ) (rows : List Row) (before after : List Threat) → WaysGoAlongArcs → AreRegions p loops
-    → lines ≡ leading_of loops pc → IsPast p loops pc None → AreRowsOf (IsLongPath p loops pc) rows
-    → ((paths : List RegionPath) → map row_of rows ≡ map normal_row paths → AddsTold p pc (filter (is_bad_behind p lines) paths) before after) → AddsRegion p loops pc before after
+    → lines ≡ leading_of loops pc → IsPast p loops pc None → AreBareRowsOf (IsHazard p loops pc) rows
+    → ((paths : List RegionPath) → map row_of rows ≡ map bare_row paths → AddsTold p pc (filter (is_bad_behind p lines) paths) before after) → AddsRegion p loops pc before after
 adds_threats p loops pc lines rows before after arcs regions same size k told =
     let a = told k.0 k.2 in
     let all = subst (λ xs. AddsTold p pc (filter (is_bad_behind p xs) k.0) before after) same a in

@@ -36,7 +36,8 @@ use Rattle.sym_simplify.specs.Literal.{LiteralForm, form_holds}
 use Rattle.sym_simplify.proofs.LiteralForms.{literal_keeps}
 use Rattle.path_inputs.specs.Least.{Meets}
 use Rattle.semantic_tables.specs.Row.{comparison_form, forms_of}
-use Rattle.compliance.specs.Threat.{stops_badly, IsThreat}
+use Rattle.semantic_tables.specs.Hazards.{stops_badly}
+use Rattle.compliance.specs.Threat.{IsThreat}
 use Rattle.compliance.specs.Verdict.{TakesDecisions, TakesPath}
 use Rattle.compliance.proofs.QuietLines.{IsQuiet, quiet_step, kind_there, plain_step}
 use Rattle.compliance.proofs.Openings.{leading_lists, leading_quiet}

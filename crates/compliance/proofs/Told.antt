@@ -7,7 +7,7 @@ use Rattle.std.proofs.lemmas.Option.{slice_get_within, get_or_from_slice_get}
 use Rattle.il_core.specs.Procedure.{Procedure}
 use Rattle.il_core.specs.declared.line.Halt.{Halt}
 use Rattle.region_paths.specs.Listing.{RegionPath}
-use Rattle.semantic_tables.specs.Row.{row_of, normal_row}
+use Rattle.semantic_tables.specs.Row.{row_of, bare_row}
 use Rattle.semantic_tables.specs.declared.row.Row.{Row}
 use Rattle.compliance.specs.Behind.{bad_halt, is_bad_behind, AddsTold}
 use Rattle.compliance.specs.Safe.{IsTold, AreTold}
@@ -18,17 +18,17 @@ use Rattle.compliance.proofs.Judged.{tells}
 pub record HasPath (paths : List RegionPath) (k : ℕ) (row : Row) : Type 0 where
   pub path : RegionPath
   pub there : slice_get paths k ≡ Some path
-  pub told : row_of row ≡ normal_row path
+  pub told : row_of row ≡ bare_row path
 
-pub path_at : (rows : List Row) (paths : List RegionPath) (k : ℕ) (row : Row) → map row_of rows ≡ map normal_row paths → slice_get rows k ≡ Some row → HasPath paths k row
+pub path_at : (rows : List Row) (paths : List RegionPath) (k : ℕ) (row : Row) → map row_of rows ≡ map bare_row paths → slice_get rows k ≡ Some row → HasPath paths k row
 path_at [] paths k row e at = absurd (cc)
 path_at (x ∷ rows) [] k row e at = absurd (cc)
 path_at (x ∷ rows) (r ∷ paths) zero row e at =
-    let first : row_of x ≡ normal_row r = cc in
+    let first : row_of x ≡ bare_row r = cc in
     let same : x ≡ row = cc in
     record { path = r; there = refl; told = ap row_of (sym same) ∙ first }
 path_at (x ∷ rows) (r ∷ paths) (suc k) row e at =
-    let rest : map row_of rows ≡ map normal_row paths = cc in
+    let rest : map row_of rows ≡ map bare_row paths = cc in
     let t = path_at rows paths k row rest at in
     record { path = t.path; there = t.there; told = t.told }
 
@@ -46,13 +46,13 @@ told_push p pc [] ts r t k h = subst (λ xs. AreTold p pc (r ∷ []) (xs ++ t �
 told_push p pc (q ∷ paths) [] r t k h = absurd k
 told_push p pc (q ∷ paths) (u ∷ ts) r t k h = (k.0, told_push p pc paths ts r t k.1 h)
 
-pub tested : (p : Procedure) (lines : List ℕ) (row : Row) (r : RegionPath) (o : Option Halt) → row_of row ≡ normal_row r → bad_halt p lines row.stop row.path ≡ o → is_bad_behind p lines r ≡ is_some o
+pub tested : (p : Procedure) (lines : List ℕ) (row : Row) (r : RegionPath) (o : Option Halt) → row_of row ≡ bare_row r → bad_halt p lines row.stop row.path ≡ o → is_bad_behind p lines r ≡ is_some o
 tested p lines row r o e h =
     let t = tells row r e in
     ap (λ x. is_some (bad_halt p lines x r.row.path)) t.stop ∙ ap (λ x. is_some (bad_halt p lines row.stop x)) t.path ∙ ap is_some h
 
 pub threat_more : (p : Procedure) (pc : ℕ) (lines : List ℕ) (rows : List Row) (paths : List RegionPath) (k : ℕ) (row : Row) (h : Halt) (t : Threat) (before found after : List Threat)
-    → map row_of rows ≡ map normal_row paths → slice_get rows k ≡ Some row → bad_halt p lines row.stop row.path ≡ Some h → ((r : RegionPath) → row_of row ≡ normal_row r → IsTold p pc r t)
+    → map row_of rows ≡ map bare_row paths → slice_get rows k ≡ Some row → bad_halt p lines row.stop row.path ≡ Some h → ((r : RegionPath) → row_of row ≡ bare_row r → IsTold p pc r t)
     → after ≡ found ++ t ∷ [] → AddsTold p pc (filter (is_bad_behind p lines) (take k paths)) before found → AddsTold p pc (filter (is_bad_behind p lines) (take (k + 1) paths)) before after
 threat_more p pc lines rows paths k row h t before found after e at bad told more a =
     let u = path_at rows paths k row e at in (
@@ -63,7 +63,7 @@ threat_more p pc lines rows paths k row h t before found after e at bad told mor
     )
 
 pub none_more : (p : Procedure) (pc : ℕ) (lines : List ℕ) (rows : List Row) (paths : List RegionPath) (k : ℕ) (row : Row) (before found : List Threat)
-    → map row_of rows ≡ map normal_row paths → slice_get rows k ≡ Some row → bad_halt p lines row.stop row.path ≡ None
+    → map row_of rows ≡ map bare_row paths → slice_get rows k ≡ Some row → bad_halt p lines row.stop row.path ≡ None
     → AddsTold p pc (filter (is_bad_behind p lines) (take k paths)) before found → AddsTold p pc (filter (is_bad_behind p lines) (take (k + 1) paths)) before found
 none_more p pc lines rows paths k row before found e at good a =
     let u = path_at rows paths k row e at in

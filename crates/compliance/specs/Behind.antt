@@ -12,7 +12,7 @@ use Rattle.region_paths.specs.Laws.{BeginsRegion}
 use Rattle.region_paths.specs.Listing.{RegionPath}
 use Rattle.region_paths.specs.Size.{IsPast}
 use Rattle.region_paths.specs.declared.limit.Limit.{Limit}
-use Rattle.semantic_tables.specs.Row.{row_of, normal_row}
+use Rattle.semantic_tables.specs.Row.{row_of, bare_row}
 use Rattle.semantic_tables.specs.declared.row.Row.{Row}
 use Rattle.compliance.specs.Threat.{IsThreat}
 use Rattle.compliance.specs.Safe.{AreTold, AreListedWithin}
@@ -47,7 +47,7 @@ pub record IsThreatRow (p : Procedure) (pc : ℕ) (row : Row) : Type 0 where
   pub begins : BeginsRegion p loops pc
   pub path : RegionPath
   pub threat : IsThreat p loops pc path
-  pub told : row_of row ≡ normal_row path
+  pub told : row_of row ≡ bare_row path
 
 -- whether a path halts badly behind these lines
 abbrev pub is_bad_behind : Procedure → List ℕ → RegionPath → Bool

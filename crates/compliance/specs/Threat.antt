@@ -1,17 +1,11 @@
 -- A threat is a long path of a region that stops at a failed assertion, a failed postcondition, a division by zero or a value out of range. A
 -- long path that stops within the opening of its region is none, since whoever comes to the region's head has passed the opening.
-use Rattle.std.specs.Prelude.{◌≡◌, ℕ, Bool, true, false, List}
+use Rattle.std.specs.Prelude.{◌≡◌, ℕ, true, List}
 use Rattle.il_core.specs.Procedure.{Procedure}
-use Rattle.il_core.specs.Run.{is_bad}
-use Rattle.il_core.specs.declared.line.Stop.{Stop}
-use Rattle.il_core.specs.declared.line.Stop.TheVariants as stop
 use Rattle.control_flow.specs.declared.control.LoopInfo.{LoopInfo}
 use Rattle.region_paths.specs.Listing.{RegionPath, IsLongPath, ListsPaths}
+use Rattle.semantic_tables.specs.Hazards.{stops_badly}
 use Rattle.compliance.specs.Opening.{opening, StayWithin}
-
-abbrev pub stops_badly : Stop → Bool
-stops_badly (stop.Halted h) = is_bad h
-stops_badly (stop.Head q) = false
 
 pub record IsThreat (p : Procedure) (loops : List LoopInfo) (pc : ℕ) (r : RegionPath) : Type 0 where
   pub path : IsLongPath p loops pc r

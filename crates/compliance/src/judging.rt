@@ -5,7 +5,7 @@ ghost use Rattle.il_core.specs.declared.line.Stop.TheVariants.{Halted};
 ghost use Rattle.sym_simplify.specs.Literal.{literal_form_of};
 ghost use Rattle.region_paths.specs.Listing.{RegionPath};
 ghost use Rattle.path_inputs.specs.Core as core;
-ghost use Rattle.semantic_tables.specs.Row.{row_of, normal_row};
+ghost use Rattle.semantic_tables.specs.Row.{row_of, bare_row};
 ghost use Rattle.semantic_tables.specs.Fit.{HasSoundLiterals};
 ghost use Rattle.compliance.specs.Verdict.{IsFirstLoose, HasVerdict};
 ghost use Rattle.compliance.specs.Behind.{IsThreatRow};
@@ -66,7 +66,7 @@ fn verdict_of(
     requires threat { IsThreatRow (procedure_of proc.now) pc row.now }
     requires stop { row.now.stop ≡ Halted halt }
     requires fits { HasSoundLiterals (length proc.now.places) row.now }
-    ensures { IfOk result (λ v. (r : RegionPath) → row_of row.now ≡ normal_row r → HasVerdict (procedure_of proc.now) pc r v) }
+    ensures { IfOk result (λ v. (r : RegionPath) → row_of row.now ≡ bare_row r → HasVerdict (procedure_of proc.now) pc r v) }
 {
     let literals = row.literals.as_slice();
     let input = match least_input(alloc, proc.places().as_slice(), pc, literals)? {
@@ -92,7 +92,7 @@ pub fn judged(
     requires threat { IsThreatRow (procedure_of proc.now) pc row }
     requires stop { row.stop ≡ Halted halt }
     requires fits { HasSoundLiterals (length proc.now.places) row }
-    ensures { IfOk result (λ t. (r : RegionPath) → row_of row ≡ normal_row r → IsTold (procedure_of proc.now) pc r t) }
+    ensures { IfOk result (λ t. (r : RegionPath) → row_of row ≡ bare_row r → IsTold (procedure_of proc.now) pc r t) }
 {
     let verdict = verdict_of(alloc, proc, pc, &row, halt)?;
     let Row { path, literals, .. } = row;

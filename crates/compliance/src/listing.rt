@@ -11,7 +11,7 @@ ghost use Rattle.test_graph.specs.Lowered.{IsLowered};
 ghost use Rattle.region_paths.specs.Region.{first_lines, leading_of};
 ghost use Rattle.region_paths.specs.Listing.{RegionPath};
 ghost use Rattle.region_paths.specs.Walk.{AreLines};
-ghost use Rattle.semantic_tables.specs.Row.{row_of, normal_row};
+ghost use Rattle.semantic_tables.specs.Row.{row_of, bare_row};
 ghost use Rattle.semantic_tables.specs.Fit.{HasSoundLiterals};
 ghost use Rattle.compliance.specs.Behind as behind;
 ghost use Rattle.compliance.specs.Behind.{IsThreatRow, is_bad_behind, AddsRegion, AddsTold};
@@ -25,7 +25,7 @@ use crate::threat::Threat;
 use control_flow::Control;
 use il_core::{CheckedProc, List, NoMemory};
 use interval_reduce::Derivation;
-use semantic_tables::{Row, TableOr, long_rows};
+use semantic_tables::{Row, TableOr, hazards};
 use std::alloc::Global;
 use test_graph::{TestGraph, ways_go_along_arcs};
 
@@ -50,7 +50,7 @@ fn add_threats(
     requires leading { AreLines (procedure_of proc.now) leading.now }
     requires rows { All (λ row. (h : Halt) → behind.bad_halt (procedure_of proc.now) leading.now row.stop row.path ≡ Some h → IsThreatRow (procedure_of proc.now) pc row) rows }
     requires fits { All (HasSoundLiterals (length proc.now.places)) rows }
-    ensures { OnOk result ((paths : List RegionPath) → map row_of rows ≡ map normal_row paths → AddsTold (procedure_of proc.now) pc (filter (is_bad_behind (procedure_of proc.now) leading.now) paths) found.old found.new) }
+    ensures { OnOk result ((paths : List RegionPath) → map row_of rows ≡ map bare_row paths → AddsTold (procedure_of proc.now) pc (filter (is_bad_behind (procedure_of proc.now) leading.now) paths) found.old found.new) }
 {
     for row in rows.into_vec() {
         if let Some(halt) = bad_halt(proc, graph, leading, &row) {
@@ -81,7 +81,7 @@ fn add_region(
     ensures { OnOk result (AddsRegion (procedure_of proc.now) control.now.loops pc found.old found.new) }
 {
     ways_go_along_arcs();
-    match long_rows(alloc, proc, graph, control, derivation, pc)? {
+    match hazards(alloc, proc, graph, control, derivation, pc)? {
         TableOr::Past(_) => Ok(()),
         TableOr::Table(rows) => add_threats(alloc, proc, graph, pc, leading, rows, found),
     }
@@ -93,9 +93,10 @@ fn add_region(
 /// ends outside the postcondition, however long it is.
 ///
 /// `graph`, `control` and `derivation` are those of `proc`, whose shape is reducible. `NoMemory` comes only where memory
-/// runs out. Each region's rows are made by `long_rows` and given up before those of the next; a threat costs one call
-/// of `least_input` and at most twice as many steps as there are lines. The pieces of a run from one head to the next
-/// are those of the method of inductive assertions (R. W. Floyd, Assigning meanings to programs, 1967).
+/// runs out. Each region's paths that stop badly are listed by `hazards`, and given up before those of the next; a threat
+/// costs one call of `least_input` and at most twice as many steps as there are lines, and any other path costs nothing
+/// beyond its decisions. The pieces of a run from one head to the next are those of the method of inductive assertions
+/// (R. W. Floyd, Assigning meanings to programs, 1967).
 pub fn threats(
     alloc: Global,
     proc: &CheckedProc,

@@ -13,7 +13,7 @@ use Rattle.region_paths.specs.PlainRow.{assigned_under}
 use Rattle.region_paths.specs.Listing.{RegionPath, Ascend, ListsPaths}
 use Rattle.region_paths.specs.PathTree.{PathTree, fork, change, stops, begun, paths_down}
 use Rattle.semantic_tables.specs.Row.{NormalRow, row_of, comparison_form, forms_of}
-use Rattle.semantic_tables.specs.Walk.{AreKept, Adds, normal_behind}
+use Rattle.semantic_tables.specs.Walk.{AreKept, Adds, normal_behind, told_by, all_told}
 use Rattle.semantic_tables.specs.declared.row.Row.{Row}
 
 kept_none : (Out : RegionPath → Type 0) (all : List RegionPath) → ((r : RegionPath) → Out r) → AreKept Out all []
@@ -72,9 +72,17 @@ rows_same : (f : RegionPath → RegionPath) (g h : RegionPath → NormalRow) (k 
 rows_same f g h [] e = refl
 rows_same f g h (r ∷ k) e = ap (λ n. n ∷ map g (map f k)) (e r) ∙ ap (λ m. h r ∷ m) (rows_same f g h k e)
 
-module _ (Out : List LiteralForm → Type 0) (path : List Bool) (fs : List LiteralForm) where
+told_both : (bad : Bool) (a b : List NormalRow) → all_told bad (a ++ b) ≡ all_told bad a ++ all_told bad b
+told_both bad [] b = refl
+told_both bad (n ∷ a) b = ap (λ ns. told_by bad n ++ ns) (told_both bad a b) ∙ sym (append_assoc (told_by bad n) (all_told bad a) (all_told bad b))
+
+module _ (Out : List LiteralForm → Type 0) (bad : Bool) (path : List Bool) (fs : List LiteralForm) where
+  -- the row of a path that ends here
+  abbrev pub ended : Stop → List Tree → NormalRow
+  ended end terms = record { path = path; literals = fs; stop = end; values = map norm terms }
+
   -- nothing is added behind literals that are left out whatever follows
-  pub adds_none : (all : List RegionPath) (rows : List Row) → ((more : List LiteralForm) → Out (fs ++ more)) → Adds Out path fs all rows rows
+  pub adds_none : (all : List RegionPath) (rows : List Row) → ((more : List LiteralForm) → Out (fs ++ more)) → Adds Out bad path fs all rows rows
   adds_none all rows h = record {
     kept = [];
     each = kept_none (λ r. Out (fs ++ forms_of r)) all (λ r. h (forms_of r));
@@ -82,36 +90,38 @@ module _ (Out : List LiteralForm → Type 0) (path : List Bool) (fs : List Liter
   }
 
   -- a path that ends here
-  pub adds_stop : (end : Stop) (terms : List Tree) (old new : List Row) (row : NormalRow) → (Out fs → ⊥)
-      → row ≡ (let n : NormalRow = record { path = path; literals = fs; stop = end; values = map norm terms } in n)
-      → map row_of new ≡ map row_of old ++ row ∷ [] → Adds Out path fs (paths_down (stops end) terms) old new
-  adds_stop end terms old new row some e h = record {
+  pub adds_stop : (end : Stop) (terms : List Tree) (old new : List Row) → (Out fs → ⊥)
+      → map row_of new ≡ map row_of old ++ told_by bad (ended end terms) → Adds Out bad path fs (paths_down (stops end) terms) old new
+  adds_stop end terms old new some h = record {
     kept = paths_down (stops end) terms;
     each = inr ((λ o. some (subst Out (append-nil fs) o)), [], refl, refl);
-    rows = h ∙ ap (λ n. map row_of old ++ n ∷ []) (e ∙ sym same);
+    rows = h ∙ ap (λ ns. map row_of old ++ ns) (ap (told_by bad) (sym same) ∙ sym (append-nil (told_by bad behind)));
   }
     where
-      same : (let n : NormalRow = record { path = path ++ []; literals = fs ++ []; stop = end; values = map norm terms } in n)
-          ≡ (let n : NormalRow = record { path = path; literals = fs; stop = end; values = map norm terms } in n)
+      behind : NormalRow
+      behind = record { path = path ++ []; literals = fs ++ []; stop = end; values = map norm terms }
+
+      same : behind ≡ ended end terms
       same = rw (append-nil path, append-nil fs) refl
 
-  pub adds_both : (a b : List RegionPath) (old mid new : List Row) → Adds Out path fs a old mid → Adds Out path fs b mid new → Adds Out path fs (a ++ b) old new
+  pub adds_both : (a b : List RegionPath) (old mid new : List Row) → Adds Out bad path fs a old mid → Adds Out bad path fs b mid new → Adds Out bad path fs (a ++ b) old new
   adds_both a b old mid new g h = record {
     kept = g.kept ++ h.kept;
     each = kept_both (λ r. Out (fs ++ forms_of r)) a b g.kept h.kept g.each h.each;
-    rows = h.rows ∙ ap (λ m. m ++ map (normal_behind path fs) h.kept) g.rows
-        ∙ append_assoc (map row_of old) (map (normal_behind path fs) g.kept) (map (normal_behind path fs) h.kept)
-        ∙ ap (λ m. map row_of old ++ m) (sym (map-append (normal_behind path fs) g.kept h.kept));
+    rows = h.rows ∙ ap (λ m. m ++ all_told bad (map (normal_behind path fs) h.kept)) g.rows
+        ∙ append_assoc (map row_of old) (all_told bad (map (normal_behind path fs) g.kept)) (all_told bad (map (normal_behind path fs) h.kept))
+        ∙ ap (λ m. map row_of old ++ m) (sym (told_both bad (map (normal_behind path fs) g.kept) (map (normal_behind path fs) h.kept)))
+        ∙ ap (λ m. map row_of old ++ all_told bad m) (sym (map-append (normal_behind path fs) g.kept h.kept));
   }
 
   -- the paths on one side of a decision
-  pub adds_side : (b : Bool) (c : Comparison) (all : List RegionPath) (old new : List Row) → Adds Out (path ++ b ∷ []) (fs ++ comparison_form c ∷ []) all old new
-      → Adds Out path fs (map (begun (b ∷ []) (c ∷ []) []) all) old new
+  pub adds_side : (b : Bool) (c : Comparison) (all : List RegionPath) (old new : List Row) → Adds Out bad (path ++ b ∷ []) (fs ++ comparison_form c ∷ []) all old new
+      → Adds Out bad path fs (map (begun (b ∷ []) (c ∷ []) []) all) old new
   adds_side b c all old new h = record {
     kept = map (begun (b ∷ []) (c ∷ []) []) h.kept;
     each = kept_map (λ r. Out ((fs ++ comparison_form c ∷ []) ++ forms_of r)) (λ r. Out (fs ++ forms_of r)) (begun (b ∷ []) (c ∷ []) []) all h.kept
         (λ r o. subst Out (longer r) o) (λ r o. subst Out (sym (longer r)) o) h.each;
-    rows = h.rows ∙ ap (λ m. map row_of old ++ m)
+    rows = h.rows ∙ ap (λ m. map row_of old ++ all_told bad m)
         (sym (rows_same (begun (b ∷ []) (c ∷ []) []) (normal_behind path fs) (normal_behind (path ++ b ∷ []) (fs ++ comparison_form c ∷ [])) h.kept same));
   }
     where
@@ -122,24 +132,24 @@ module _ (Out : List LiteralForm → Type 0) (path : List Bool) (fs : List Liter
       same r = rw (append_assoc path (b ∷ []) r.row.path, append_assoc fs (comparison_form c ∷ []) (forms_of r)) refl
 
   -- behind an assignment
-  pub adds_behind : (assigned : List Tree) (all : List RegionPath) (old new : List Row) → Adds Out path fs all old new → Adds Out path fs (map (begun [] [] assigned) all) old new
+  pub adds_behind : (assigned : List Tree) (all : List RegionPath) (old new : List Row) → Adds Out bad path fs all old new → Adds Out bad path fs (map (begun [] [] assigned) all) old new
   adds_behind assigned all old new h = record {
     kept = map (begun [] [] assigned) h.kept;
     each = kept_map (λ r. Out (fs ++ forms_of r)) (λ r. Out (fs ++ forms_of r)) (begun [] [] assigned) all h.kept (λ r o. o) (λ r o. o) h.each;
-    rows = h.rows ∙ ap (λ m. map row_of old ++ m) (sym (rows_same (begun [] [] assigned) (normal_behind path fs) (normal_behind path fs) h.kept (λ r. refl)));
+    rows = h.rows ∙ ap (λ m. map row_of old ++ all_told bad m) (sym (rows_same (begun [] [] assigned) (normal_behind path fs) (normal_behind path fs) h.kept (λ r. refl)));
   }
 
 -- both sides of a decision
-pub adds_fork : (Out : List LiteralForm → Type 0) (path : List Bool) (fs : List LiteralForm) (c : Comparison) (met unmet : PathTree) (terms : List Tree) (old mid new : List Row)
-    → Adds Out (path ++ true ∷ []) (fs ++ comparison_form (comparison_under terms c) ∷ []) (paths_down met terms) old mid
-    → Adds Out (path ++ false ∷ []) (fs ++ comparison_form (comparison_under terms (denied c)) ∷ []) (paths_down unmet terms) mid new
-    → Adds Out path fs (paths_down (fork c met unmet) terms) old new
-adds_fork Out path fs c met unmet terms old mid new g h =
-    adds_both Out path fs (map (begun (true ∷ []) (comparison_under terms c ∷ []) []) (paths_down met terms))
+pub adds_fork : (Out : List LiteralForm → Type 0) (bad : Bool) (path : List Bool) (fs : List LiteralForm) (c : Comparison) (met unmet : PathTree) (terms : List Tree) (old mid new : List Row)
+    → Adds Out bad (path ++ true ∷ []) (fs ++ comparison_form (comparison_under terms c) ∷ []) (paths_down met terms) old mid
+    → Adds Out bad (path ++ false ∷ []) (fs ++ comparison_form (comparison_under terms (denied c)) ∷ []) (paths_down unmet terms) mid new
+    → Adds Out bad path fs (paths_down (fork c met unmet) terms) old new
+adds_fork Out bad path fs c met unmet terms old mid new g h =
+    adds_both Out bad path fs (map (begun (true ∷ []) (comparison_under terms c ∷ []) []) (paths_down met terms))
     (map (begun (false ∷ []) (comparison_under terms (denied c) ∷ []) []) (paths_down unmet terms)) old mid new
-    (adds_side Out path fs true (comparison_under terms c) (paths_down met terms) old mid g)
-    (adds_side Out path fs false (comparison_under terms (denied c)) (paths_down unmet terms) mid new h)
+    (adds_side Out bad path fs true (comparison_under terms c) (paths_down met terms) old mid g)
+    (adds_side Out bad path fs false (comparison_under terms (denied c)) (paths_down unmet terms) mid new h)
 
-pub adds_change : (Out : List LiteralForm → Type 0) (path : List Bool) (fs : List LiteralForm) (c : Option Change) (rest : PathTree) (terms : List Tree) (old new : List Row)
-    → Adds Out path fs (paths_down rest (changed c terms)) old new → Adds Out path fs (paths_down (change c rest) terms) old new
-adds_change Out path fs c rest terms old new h = adds_behind Out path fs (assigned_under terms c) (paths_down rest (changed c terms)) old new h
+pub adds_change : (Out : List LiteralForm → Type 0) (bad : Bool) (path : List Bool) (fs : List LiteralForm) (c : Option Change) (rest : PathTree) (terms : List Tree) (old new : List Row)
+    → Adds Out bad path fs (paths_down rest (changed c terms)) old new → Adds Out bad path fs (paths_down (change c rest) terms) old new
+adds_change Out bad path fs c rest terms old new h = adds_behind Out bad path fs (assigned_under terms c) (paths_down rest (changed c terms)) old new h

@@ -52,10 +52,10 @@ fewer_less n (suc k) m a b h l = elim (cases_lt n k) [
   | inr high ↦ let same : n ≡ k = omega (arith, h, high) in subst (λ (x : ℕ). n * m + a < suc x * m + b) same (line_less n m a b l)
 ]
 
-pub adds_as : (Out : List LiteralForm → Type 0) (p q : List Bool) (fs gs : List LiteralForm) (all every : List RegionPath) (old new : List Row) → p ≡ q → fs ≡ gs → all ≡ every
-    → Adds Out p fs all old new → Adds Out q gs every old new
-adds_as Out p q fs gs all every old new e f h a =
-    subst (λ (x : List RegionPath). Adds Out q gs x old new) h (subst (λ (x : List LiteralForm). Adds Out q x all old new) f (subst (λ (x : List Bool). Adds Out x fs all old new) e a))
+pub adds_as : (Out : List LiteralForm → Type 0) (bad : Bool) (p q : List Bool) (fs gs : List LiteralForm) (all every : List RegionPath) (old new : List Row) → p ≡ q → fs ≡ gs → all ≡ every
+    → Adds Out bad p fs all old new → Adds Out bad q gs every old new
+adds_as Out bad p q fs gs all every old new e f h a =
+    subst (λ (x : List RegionPath). Adds Out bad q gs x old new) h (subst (λ (x : List LiteralForm). Adds Out bad q x all old new) f (subst (λ (x : List Bool). Adds Out bad x fs all old new) e a))
 
 begun_same : (rows : List RegionPath) → map (begun [] [] []) rows ≡ rows
 begun_same [] = refl
@@ -120,18 +120,18 @@ module _ (g : Ground) (id : ℕ) (course : Course) (terms : List Tree) (k : IsGr
     pub fork_added : (literal : Literal) (met unmet : ℕ) (terms_met terms_unmet : List Tree) (path_unmet : List Bool) (fs_unmet : List LiteralForm) (f h : LiteralForm) (mid : List Row)
         → slice_get g.graph.now.nodes id ≡ Some (Test literal met unmet) → terms_met ≡ terms → terms_unmet ≡ terms → path_unmet ≡ path → fs_unmet ≡ fs
         → f ≡ comparison_form (comparison_under terms (comparison_of literal)) → h ≡ comparison_form (comparison_under terms (denied (comparison_of literal)))
-        → ((x : Decision) → Unfolds g.graph.now.nodes g.graph.now.entries met x → Adds (LeftOut g) (path ++ true ∷ []) (fs ++ f ∷ []) (paths_down (tree_from g course x) terms_met) old mid)
-        → ((x : Decision) → Unfolds g.graph.now.nodes g.graph.now.entries unmet x → Adds (LeftOut g) (path_unmet ++ false ∷ []) (fs_unmet ++ h ∷ []) (paths_down (tree_from g course x) terms_unmet) mid new)
-        → Adds (LeftOut g) path fs (paths_down (tree_from g course d) terms) old new
+        → ((x : Decision) → Unfolds g.graph.now.nodes g.graph.now.entries met x → Adds (LeftOut g) g.bad (path ++ true ∷ []) (fs ++ f ∷ []) (paths_down (tree_from g course x) terms_met) old mid)
+        → ((x : Decision) → Unfolds g.graph.now.nodes g.graph.now.entries unmet x → Adds (LeftOut g) g.bad (path_unmet ++ false ∷ []) (fs_unmet ++ h ∷ []) (paths_down (tree_from g course x) terms_unmet) mid new)
+        → Adds (LeftOut g) g.bad path fs (paths_down (tree_from g course d) terms) old new
     fork_added literal met unmet terms_met terms_unmet path_unmet fs_unmet f h mid e a b p q i j on off =
         let t = at_test (ground_procedure g) g.graph.now id literal met unmet d k.lowered e u in
         let c = comparison_of literal in
-        subst (λ (x : Decision). Adds (LeftOut g) path fs (paths_down (tree_from g course x) terms) old new) (sym t.same)
-        (adds_fork (LeftOut g) path fs c (tree_from g course t.on) (tree_from g course t.off) terms old mid new
-        (adds_as (LeftOut g) (path ++ true ∷ []) (path ++ true ∷ []) (fs ++ f ∷ []) (fs ++ comparison_form (comparison_under terms c) ∷ [])
+        subst (λ (x : Decision). Adds (LeftOut g) g.bad path fs (paths_down (tree_from g course x) terms) old new) (sym t.same)
+        (adds_fork (LeftOut g) g.bad path fs c (tree_from g course t.on) (tree_from g course t.off) terms old mid new
+        (adds_as (LeftOut g) g.bad (path ++ true ∷ []) (path ++ true ∷ []) (fs ++ f ∷ []) (fs ++ comparison_form (comparison_under terms c) ∷ [])
         (paths_down (tree_from g course t.on) terms_met) (paths_down (tree_from g course t.on) terms) old mid refl (ap (λ (x : LiteralForm). fs ++ x ∷ []) i)
         (ap (paths_down (tree_from g course t.on)) a) (on t.on t.met_unfolds))
-        (adds_as (LeftOut g) (path_unmet ++ false ∷ []) (path ++ false ∷ []) (fs_unmet ++ h ∷ []) (fs ++ comparison_form (comparison_under terms (denied c)) ∷ [])
+        (adds_as (LeftOut g) g.bad (path_unmet ++ false ∷ []) (path ++ false ∷ []) (fs_unmet ++ h ∷ []) (fs ++ comparison_form (comparison_under terms (denied c)) ∷ [])
         (paths_down (tree_from g course t.off) terms_unmet) (paths_down (tree_from g course t.off) terms) mid new (ap (λ (x : List Bool). x ++ false ∷ []) p)
         (ap (λ (x : List LiteralForm). x ++ h ∷ []) q ∙ ap (λ (x : LiteralForm). fs ++ x ∷ []) j)
         (ap (paths_down (tree_from g course t.off)) b) (off t.off t.unmet_unfolds)))
@@ -139,47 +139,47 @@ module _ (g : Ground) (id : ℕ) (course : Course) (terms : List Tree) (k : IsGr
     -- the rows behind an assignment
     pub assign_added : (place : ℕ) (term : Term) (then : ℕ) (terms_then : List Tree) → slice_get g.graph.now.nodes id ≡ Some (Assign place term then)
         → terms_then ≡ slice_set terms place (substituted terms (tree_of term))
-        → ((x : Decision) → Unfolds g.graph.now.nodes g.graph.now.entries then x → Adds (LeftOut g) path fs (paths_down (tree_from g course x) terms_then) old new)
-        → Adds (LeftOut g) path fs (paths_down (tree_from g course d) terms) old new
+        → ((x : Decision) → Unfolds g.graph.now.nodes g.graph.now.entries then x → Adds (LeftOut g) g.bad path fs (paths_down (tree_from g course x) terms_then) old new)
+        → Adds (LeftOut g) g.bad path fs (paths_down (tree_from g course d) terms) old new
     assign_added place term then terms_then e a h =
         let t = at_assign (ground_procedure g) g.graph.now id place term then d k.lowered e u in
         let c : Change = record { place = place; term = tree_of term } in
         let rest = behind (ground_procedure g) g.loops.now g.long course t.to in
-        subst (λ (x : Decision). Adds (LeftOut g) path fs (paths_down (tree_from g course x) terms) old new) (sym t.same)
-        (adds_change (LeftOut g) path fs (Some c) rest terms old new
-        (adds_as (LeftOut g) path path fs fs (paths_down (change None rest) terms_then) (paths_down rest (changed (Some c) terms)) old new refl refl
+        subst (λ (x : Decision). Adds (LeftOut g) g.bad path fs (paths_down (tree_from g course x) terms) old new) (sym t.same)
+        (adds_change (LeftOut g) g.bad path fs (Some c) rest terms old new
+        (adds_as (LeftOut g) g.bad path path fs fs (paths_down (change None rest) terms_then) (paths_down rest (changed (Some c) terms)) old new refl refl
         (begun_same (paths_down rest terms_then) ∙ ap (paths_down rest) a) (h (done None t.to) t.unfolds)))
 
     -- the rows behind a line
     pub line_added : (q first to left : ℕ) (course_on : Course) → slice_get g.graph.now.nodes id ≡ Some (AtLine q first)
         → IsOnward g left (behind (ground_procedure g) g.loops.now g.long course (next.At q)) to course_on
-        → ((x : Decision) → Unfolds g.graph.now.nodes g.graph.now.entries to x → Adds (LeftOut g) path fs (paths_down (tree_from g course_on x) terms) old new)
-        → Adds (LeftOut g) path fs (paths_down (tree_from g course d) terms) old new
+        → ((x : Decision) → Unfolds g.graph.now.nodes g.graph.now.entries to x → Adds (LeftOut g) g.bad path fs (paths_down (tree_from g course_on x) terms) old new)
+        → Adds (LeftOut g) g.bad path fs (paths_down (tree_from g course d) terms) old new
     line_added q first to left course_on e o h =
         let same = at_line (ground_procedure g) g.graph.now id q first d k.lowered e u in
         let rest = behind (ground_procedure g) g.loops.now g.long course (next.At q) in
-        subst (λ (x : Decision). Adds (LeftOut g) path fs (paths_down (tree_from g course x) terms) old new) (sym same)
-        (adds_change (LeftOut g) path fs None rest terms old new
-        (subst (λ (t : PathTree). Adds (LeftOut g) path fs (paths_down t terms) old new) (sym o.same) (h o.decision o.unfolds)))
+        subst (λ (x : Decision). Adds (LeftOut g) g.bad path fs (paths_down (tree_from g course x) terms) old new) (sym same)
+        (adds_change (LeftOut g) g.bad path fs None rest terms old new
+        (subst (λ (t : PathTree). Adds (LeftOut g) g.bad path fs (paths_down t terms) old new) (sym o.same) (h o.decision o.unfolds)))
 
     pub line_stops : (q first : ℕ) (end : Stop) → slice_get g.graph.now.nodes id ≡ Some (AtLine q first)
         → behind (ground_procedure g) g.loops.now g.long course (next.At q) ≡ stops end
-        → Adds (LeftOut g) path fs (paths_down (stops end) terms) old new → Adds (LeftOut g) path fs (paths_down (tree_from g course d) terms) old new
+        → Adds (LeftOut g) g.bad path fs (paths_down (stops end) terms) old new → Adds (LeftOut g) g.bad path fs (paths_down (tree_from g course d) terms) old new
     line_stops q first end e o h =
         let same = at_line (ground_procedure g) g.graph.now id q first d k.lowered e u in
         let rest = behind (ground_procedure g) g.loops.now g.long course (next.At q) in
-        subst (λ (x : Decision). Adds (LeftOut g) path fs (paths_down (tree_from g course x) terms) old new) (sym same)
-        (adds_change (LeftOut g) path fs None rest terms old new
-        (subst (λ (t : PathTree). Adds (LeftOut g) path fs (paths_down t terms) old new) (sym o) h))
+        subst (λ (x : Decision). Adds (LeftOut g) g.bad path fs (paths_down (tree_from g course x) terms) old new) (sym same)
+        (adds_change (LeftOut g) g.bad path fs None rest terms old new
+        (subst (λ (t : PathTree). Adds (LeftOut g) g.bad path fs (paths_down t terms) old new) (sym o) h))
 
     pub halt_stops : (h : Halt) → slice_get g.graph.now.nodes id ≡ Some (Halts h)
-        → Adds (LeftOut g) path fs (paths_down (stops (stop.Halted h)) terms) old new → Adds (LeftOut g) path fs (paths_down (tree_from g course d) terms) old new
+        → Adds (LeftOut g) g.bad path fs (paths_down (stops (stop.Halted h)) terms) old new → Adds (LeftOut g) g.bad path fs (paths_down (tree_from g course d) terms) old new
     halt_stops h e a =
         let same = at_stop (ground_procedure g) g.graph.now id h d k.lowered e u in
         let rest = behind (ground_procedure g) g.loops.now g.long course (next.Halted h) in
-        subst (λ (x : Decision). Adds (LeftOut g) path fs (paths_down (tree_from g course x) terms) old new) (sym same)
-        (adds_change (LeftOut g) path fs None rest terms old new
-        (subst (λ (t : PathTree). Adds (LeftOut g) path fs (paths_down t terms) old new) (sym (halted (ground_procedure g) g.loops.now g.long course)) a))
+        subst (λ (x : Decision). Adds (LeftOut g) g.bad path fs (paths_down (tree_from g course x) terms) old new) (sym same)
+        (adds_change (LeftOut g) g.bad path fs None rest terms old new
+        (subst (λ (t : PathTree). Adds (LeftOut g) g.bad path fs (paths_down t terms) old new) (sym (halted (ground_procedure g) g.loops.now g.long course)) a))
       where
         halted : (p : Procedure) (loops : List LoopInfo) (long : Bool) (way : Course) → behind p loops long way (next.Halted h) ≡ stops (stop.Halted h)
         halted p loops long (Region room) = refl

@@ -1,5 +1,5 @@
 -- A walk down the tree of a region: which tree stands behind a way, what the terms and the literals so far stand for, and which rows it adds.
-use Rattle.std.specs.Prelude.{◌≡◌, ◌⊎◌, ◌<◌, ◌≤◌, ◌^◌, ◌+◌, ◌-◌, ℕ, suc, Bool, true, false, Option, Some, None, List, [], ◌∷◌, ◌++◌, map, length, drop, slice_get}
+use Rattle.std.specs.Prelude.{◌≡◌, ◌⊎◌, ◌<◌, ◌≤◌, ◌^◌, ◌+◌, ◌-◌, ℕ, suc, Bool, true, false, Option, Some, None, List, [], ◌∷◌, ◌++◌, map, length, drop, slice_get, if◌then◌else◌, not, ◌&&◌}
 use Rattle.il_core.specs.Checked.{procedure_of, IsChecked}
 use Rattle.il_core.specs.Procedure.{Procedure}
 use Rattle.il_core.specs.declared.line.Next.{Next}
@@ -14,6 +14,7 @@ use Rattle.sym_terms.specs.Nodes.{tree_at, terms_of, AreWithin}
 use Rattle.sym_terms.specs.Places.{HavePlacesBelow}
 use Rattle.sym_terms.specs.declared.node.TermId.{TermId}
 use Rattle.sym_terms.specs.declared.node.TermNode.{TermNode}
+use Rattle.sym_simplify.specs.Form.{Form}
 use Rattle.sym_simplify.specs.Norm.{norm}
 use Rattle.sym_simplify.specs.Literal.{LiteralForm, literal_form_of}
 use Rattle.sym_simplify.specs.Easy.{IsKept}
@@ -24,13 +25,16 @@ use Rattle.test_graph.specs.Way.{changed}
 use Rattle.test_graph.specs.Places.{DecidesPlacesBelow}
 use Rattle.test_graph.specs.Lowered.{Unfolds, IsLowered}
 use Rattle.region_paths.specs.Region.{leading_of}
-use Rattle.region_paths.specs.Listing.{RegionPath}
+use Rattle.region_paths.specs.Listing.{RegionPath, IsLongPath, ListsPaths}
+use Rattle.region_paths.specs.Size.{IsPast}
 use Rattle.region_paths.specs.PathTree.{PathTree, fork, change, stops, grafted, below, passed, tree_to, leading_tree}
 use Rattle.region_paths.specs.Walk.{LeadInside}
-use Rattle.semantic_tables.specs.Row.{NormalRow, row_of, comparison_form, forms_of}
-use Rattle.semantic_tables.specs.Table.{IsTable, IsLongTable}
+use Rattle.semantic_tables.specs.Row.{NormalRow, row_of, normal_row, comparison_form, forms_of}
+use Rattle.semantic_tables.specs.Table.{IsOpenPath}
+use Rattle.semantic_tables.specs.Hazards.{stops_badly}
 use Rattle.semantic_tables.specs.declared.row.Row.{Row}
 use Rattle.semantic_tables.specs.declared.row.TableOr.{TableOr}
+use Rattle.semantic_tables.specs.declared.row.TableOr.TheVariants.{Table, Past}
 use Rattle.semantic_tables.specs.declared.prefix.Sides.{Sides}
 use Rattle.semantic_tables.specs.declared.prefix.Prefix.{Prefix}
 use Rattle.semantic_tables.specs.declared.course.Ground.{Ground}
@@ -199,13 +203,36 @@ AreKept Out (r ∷ all) kept = (Out r × AreKept Out all kept) ⊎ ((Out r → �
 abbrev pub normal_behind : List Bool → List LiteralForm → RegionPath → NormalRow
 normal_behind path fs r = record { path = path ++ r.row.path; literals = fs ++ forms_of r; stop = r.stop; values = map norm r.row.values }
 
+-- where hazards are asked for, no value stands, and a row that does not stop badly does not stand either
+abbrev pub values_told : Bool → List Form → List Form
+values_told true values = []
+values_told false values = values
+
+abbrev pub row_told : Bool → NormalRow → NormalRow
+row_told bad n = record { path = n.path; literals = n.literals; stop = n.stop; values = values_told bad n.values }
+
+abbrev pub told_by : Bool → NormalRow → List NormalRow
+told_by bad n = if bad && not (stops_badly n.stop) then [] else row_told bad n ∷ []
+
+abbrev pub all_told : Bool → List NormalRow → List NormalRow
+all_told bad [] = []
+all_told bad (n ∷ ns) = told_by bad n ++ all_told bad ns
+
 -- the rows of these paths behind a prefix, but for those left out, are added
-pub record Adds (Out : List LiteralForm → Type 0) (path : List Bool) (fs : List LiteralForm) (all : List RegionPath) (old new : List Row) : Type 0 where
+pub record Adds (Out : List LiteralForm → Type 0) (bad : Bool) (path : List Bool) (fs : List LiteralForm) (all : List RegionPath) (old new : List Row) : Type 0 where
   pub kept : List RegionPath
   pub each : AreKept (λ r. Out (fs ++ forms_of r)) all kept
-  pub rows : map row_of new ≡ map row_of old ++ map (normal_behind path fs) kept
+  pub rows : map row_of new ≡ map row_of old ++ all_told bad (map (normal_behind path fs) kept)
 
--- the long rows, or those of the table
-abbrev pub IsTableFor : Bool → Procedure → List LoopInfo → ℕ → TableOr → Type 0
-IsTableFor true = IsLongTable
-IsTableFor false = IsTable
+-- what is told of the rows of the paths with a property, in order, exactly where the region is within its size
+abbrev pub IsTold : Bool → (RegionPath → Type 0) → Procedure → List LoopInfo → ℕ → TableOr → Type 0
+IsTold bad P p loops pc (Table rows) = IsPast p loops pc None × (paths : List RegionPath) × ListsPaths P paths × (map row_of rows ≡ all_told bad (map normal_row paths))
+IsTold bad P p loops pc (Past limit) = IsPast p loops pc (Some limit)
+
+-- the long paths, or those of the table
+abbrev pub IsPathFor : Bool → Procedure → List LoopInfo → ℕ → RegionPath → Type 0
+IsPathFor true p loops pc r = IsLongPath p loops pc r
+IsPathFor false p loops pc r = IsOpenPath p loops pc r
+
+abbrev pub IsTableFor : Bool → Bool → Procedure → List LoopInfo → ℕ → TableOr → Type 0
+IsTableFor long bad p loops pc t = IsTold bad (IsPathFor long p loops pc) p loops pc t

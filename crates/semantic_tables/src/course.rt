@@ -28,6 +28,8 @@ pub struct Ground<'a> {
     pub line: usize,
     /// Whether the long rows are asked for, and not those of the table.
     pub long: bool,
+    /// Whether only those are asked for that stop badly, and none of their values.
+    pub bad: bool,
 }
 
 /// Which lines are walked through.

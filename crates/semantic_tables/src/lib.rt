@@ -12,5 +12,5 @@ mod row;
 mod walking;
 
 pub use laws::{inputs_have_one_long_row, inputs_have_one_row, one_table};
-pub use making::{long_rows, table};
+pub use making::{hazards, long_rows, table};
 pub use row::{Row, TableOr};

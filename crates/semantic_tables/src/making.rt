@@ -13,6 +13,7 @@ ghost use Rattle.region_paths.specs.PathTree.{paths_down};
 ghost use Rattle.region_paths.specs.Region.{first_lines};
 ghost use Rattle.region_paths.specs.Laws.{BeginsRegion};
 ghost use Rattle.semantic_tables.specs.Table.{IsTable, IsLongTable};
+ghost use Rattle.semantic_tables.specs.Hazards.{AreHazards};
 ghost use Rattle.semantic_tables.specs.OneRow.{OneRowEach, OneLongRowEach};
 ghost use Rattle.semantic_tables.specs.Fit.{HasSoundLiterals, HaveSoundLiterals};
 ghost use Rattle.semantic_tables.specs.declared.course.Course.TheVariants.{Region};
@@ -39,7 +40,7 @@ fn rows_of(ground: Ground<'_>, room: usize) -> Result<List<Row>, NoMemory>
     requires ground { IsGround ground }
     requires line { ground.line < length (ground_procedure ground).lines }
     requires small { StaysSmall (tree_from ground (Region room) (decision_at (ground_procedure ground) ground.line)) (own_values (length ground.proc.now.places)) }
-    ensures rows { IfOk result (Adds (LeftOut ground.entry) [] [] (paths_down (tree_from ground.entry (Region room) (decision_at (ground_procedure ground.entry) ground.entry.line)) (own_values (length ground.entry.proc.now.places))) []) }
+    ensures rows { IfOk result (Adds (LeftOut ground.entry) ground.entry.bad [] [] (paths_down (tree_from ground.entry (Region room) (decision_at (ground_procedure ground.entry) ground.entry.line)) (own_values (length ground.entry.proc.now.places))) []) }
     ensures sound { IfOk result (All (HasSoundLiterals (length ground.entry.proc.now.places))) }
 {
     refuted_stays_refuted();
@@ -71,13 +72,14 @@ fn rows_within(
     control: &Control,
     pc: usize,
     long: bool,
+    bad: bool,
 ) -> Result<TableOr, NoMemory>
     requires lowered { IsLowered (procedure_of proc.now) graph.now }
     requires control { IsControlOf (graph_of (procedure_of proc.now)) control.now }
     requires shape { control.now.shape ≡ Reducible }
     requires first { IsIn (first_lines control.now.loops) pc }
     ensures begins { IfOk result (λ _. BeginsRegion (procedure_of proc.now) control.now.loops pc) }
-    ensures rows { IfOk result (IsTableFor long (procedure_of proc.now) control.now.loops pc) }
+    ensures rows { IfOk result (IsTableFor long bad (procedure_of proc.now) control.now.loops pc) }
     ensures fits { IfOk result (HaveSoundLiterals (length proc.now.places)) }
 {
     paths_are_listed();
@@ -94,6 +96,7 @@ fn rows_within(
         loops,
         line: pc,
         long,
+        bad,
     };
     Ok(TableOr::Table(rows_of(ground, room)?))
 }
@@ -132,7 +135,7 @@ pub fn table(
     ensures fits { IfOk result (HaveSoundLiterals (length proc.now.places)) }
 {
     inputs_have_one_row();
-    rows_within(alloc, proc, graph, control, pc, false)
+    rows_within(alloc, proc, graph, control, pc, false, false)
 }
 
 /// The rows of all long paths of the region that begins at line `pc`, in the order of decisions, true first: these go on
@@ -159,5 +162,30 @@ pub fn long_rows(
     ensures fits { IfOk result (HaveSoundLiterals (length proc.now.places)) }
 {
     inputs_have_one_long_row();
-    rows_within(alloc, proc, graph, control, pc, true)
+    rows_within(alloc, proc, graph, control, pc, true, false)
+}
+
+/// The hazards of the region that begins at line `pc`: those of its long rows that stop at a failed assertion, a failed
+/// postcondition, a division by zero or a value out of range, in order, without values. The literals are such as
+/// `least_input` asks for.
+///
+/// The conditions, the answers and the stack are those of `long_rows`. It takes the same walk, but a path that does not
+/// stop badly costs nothing beyond its decisions, and no value is brought to its normal term.
+pub fn hazards(
+    alloc: Global,
+    proc: &CheckedProc,
+    graph: &TestGraph,
+    control: &Control,
+    derivation: &Derivation,
+    pc: usize,
+) -> Result<TableOr, NoMemory>
+    requires lowered { IsLowered (procedure_of proc.now) graph.now }
+    requires control { IsControlOf (graph_of (procedure_of proc.now)) control.now }
+    requires shape { control.now.shape ≡ Reducible }
+    requires derivation { IsDerivationOf (graph_of (procedure_of proc.now)) control.now.shape derivation.now }
+    requires first { IsIn (first_lines control.now.loops) pc }
+    ensures rows { IfOk result (AreHazards (procedure_of proc.now) control.now.loops pc) }
+    ensures fits { IfOk result (HaveSoundLiterals (length proc.now.places)) }
+{
+    rows_within(alloc, proc, graph, control, pc, true, true)
 }

@@ -9,7 +9,7 @@ ghost use Rattle.sym_simplify.specs.Held.{form_of};
 ghost use Rattle.sym_simplify.specs.Literal.{literal_form_of};
 ghost use Rattle.semantic_tables.specs.Row.{row_of, comparison_form};
 ghost use Rattle.semantic_tables.specs.Fit.{HasSoundLiterals};
-ghost use Rattle.semantic_tables.specs.Walk.{comparison_at, IsEnvironment, IsCompared, IsPrefix, prefix_forms};
+ghost use Rattle.semantic_tables.specs.Walk.{comparison_at, IsEnvironment, IsCompared, IsPrefix, prefix_forms, values_told};
 
 use crate::row::Row;
 use il_core::{List, NoMemory, Relation, Stop};
@@ -157,17 +157,35 @@ fn values_of(alloc: Global, forms: &mut Forms, env: &[TermId]) -> Result<List<No
     Ok(values)
 }
 
-/// The row of a path that ends here.
+/// The normal terms of the numbered terms, or none where none are asked for.
+fn values_asked(
+    alloc: Global,
+    bare: bool,
+    forms: &mut Forms,
+    env: &[TermId],
+) -> Result<List<Normal>, NoMemory>
+    requires { IsEnvironment (length env.now) forms.old.terms env.now }
+    ensures values { IfOk result (λ l. map form_of l ≡ values_told bare (map norm (terms_of forms.old.terms env.now))) }
+    ensures terms { forms.new.terms ≡ forms.old.terms }
+{
+    if bare {
+        return Ok(List::new(alloc));
+    }
+    values_of(alloc, forms, env)
+}
+
+/// The row of a path that ends here, without values where it is to be bare.
 pub fn row_at(
     alloc: Global,
     forms: &mut Forms,
     env: &[TermId],
     prefix: &Prefix,
     stop: Stop,
+    bare: bool,
 ) -> Result<Row, NoMemory>
     requires env { IsEnvironment (length env.now) forms.old.terms env.now }
     requires prefix { IsPrefix (length env.now) forms.old.terms prefix.now }
-    ensures row { IfOk result (λ r. row_of r ≡ record { path = prefix.now.path.items; literals = prefix_forms prefix.now; stop = stop; values = map norm (terms_of forms.old.terms env.now) }) }
+    ensures row { IfOk result (λ r. row_of r ≡ record { path = prefix.now.path.items; literals = prefix_forms prefix.now; stop = stop; values = values_told bare (map norm (terms_of forms.old.terms env.now)) }) }
     ensures sound { IfOk result (HasSoundLiterals (length env.now)) }
     ensures terms { forms.new.terms ≡ forms.old.terms }
 {
@@ -175,6 +193,6 @@ pub fn row_at(
         path: path_of(alloc, &prefix.path)?,
         literals: literals_of(alloc, forms, &prefix.sides)?,
         stop,
-        values: values_of(alloc, forms, env)?,
+        values: values_asked(alloc, bare, forms, env)?,
     })
 }

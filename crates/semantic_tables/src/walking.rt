@@ -1,5 +1,5 @@
 //! The walk down the tree of a region, over the nodes of the lowered graph: decision by decision, true first.
-ghost use Rattle.std.specs.Prelude.{◌≡◌, ◌∷◌, ◌++◌, [], All, IfOk, MatchBool, length, map};
+ghost use Rattle.std.specs.Prelude.{◌≡◌, ◌∷◌, ◌++◌, ◌&&◌, not, [], All, IfOk, MatchBool, length, map};
 ghost use Rattle.il_core.specs.declared.line.Stop.{Stop};
 ghost use Rattle.sym_terms.specs.Grown.{Keeps};
 ghost use Rattle.sym_terms.specs.Nodes.{terms_of};
@@ -11,13 +11,14 @@ ghost use Rattle.test_graph.specs.Lowered.{Unfolds};
 ghost use Rattle.region_paths.specs.PathTree.{PathTree, paths_down, stops};
 ghost use Rattle.semantic_tables.specs.Row.{comparison_form};
 ghost use Rattle.semantic_tables.specs.Fit.{HasSoundLiterals};
+ghost use Rattle.semantic_tables.specs.Hazards.{stops_badly};
 ghost use Rattle.semantic_tables.specs.Walk.{IsGround, IsCourse, tree_from, Stands, IsEnvironment, IsPrefix, IsSamePrefix, prefix_forms, comparison_at, AreSides, LeftOut, Adds};
 
 use crate::course::{Course, Ground, Onward, go_on};
 use crate::environment::{exchange, put_under, sides_under};
 use crate::prefix::{Prefix, Sides, row_at};
 use crate::row::Row;
-use il_core::{List, NoMemory, Stop};
+use il_core::{Halt, List, NoMemory, Stop};
 use path_inputs::{least_input, refuted_stays_refuted};
 use sym_simplify::{Forms, LitForm};
 use sym_terms::TermId;
@@ -41,7 +42,26 @@ pub fn is_open(ground: Ground<'_>, literals: &[LitForm]) -> Result<bool, NoMemor
     Ok(least.is_some())
 }
 
-/// Adds the row of a path that ends here.
+/// Whether a path stops at a fault, a failed assertion or outside the postcondition.
+fn stops_badly(stop: Stop) -> bool
+    ensures { result ≡ stops_badly stop }
+{
+    match stop {
+        Stop::Head(_) | Stop::Halted(Halt::End | Halt::Outside) => false,
+        Stop::Halted(
+            Halt::FailedAssert(_) | Halt::FailedPost | Halt::DivZero(_) | Halt::Range(_),
+        ) => true,
+    }
+}
+
+/// Whether the paths that stop like this have no row.
+fn is_passed_over(ground: Ground<'_>, stop: Stop) -> bool
+    ensures { result ≡ (ground.entry.bad && not (stops_badly stop)) }
+{
+    ground.bad && !stops_badly(stop)
+}
+
+/// Adds the row of a path that ends here, if it is asked for.
 fn push_row(
     ground: Ground<'_>,
     stop: Stop,
@@ -54,11 +74,14 @@ fn push_row(
     requires prefix { IsPrefix (length ground.proc.now.places) forms.old.terms prefix.now }
     requires some { LeftOut ground (prefix_forms prefix.now) → ⊥ }
     requires sound { All (HasSoundLiterals (length ground.proc.now.places)) rows.old }
-    ensures rows { IfOk result (λ _. Adds (LeftOut ground.entry) prefix.now.path.items (prefix_forms prefix.now) (paths_down (stops stop) (terms_of forms.old.terms env.now)) rows.old rows.new) }
+    ensures rows { IfOk result (λ _. Adds (LeftOut ground.entry) ground.entry.bad prefix.now.path.items (prefix_forms prefix.now) (paths_down (stops stop) (terms_of forms.old.terms env.now)) rows.old rows.new) }
     ensures sound { IfOk result (λ _. All (HasSoundLiterals (length ground.entry.proc.now.places)) rows.new) }
     ensures terms { forms.new.terms ≡ forms.old.terms }
 {
-    rows.push(row_at(ground.alloc, forms, env, prefix, stop)?)
+    if is_passed_over(ground, stop) {
+        return Ok(());
+    }
+    rows.push(row_at(ground.alloc, forms, env, prefix, stop, ground.bad)?)
 }
 
 /// Adds the rows on one side of a decision, unless the literals so far are refuted.
@@ -81,7 +104,7 @@ fn walk_side(
     requires sides { AreSides (length ground.proc.now.places) forms.old.terms sides }
     requires prefix { IsPrefix (length ground.proc.now.places) forms.old.terms prefix.old }
     requires sound { All (HasSoundLiterals (length ground.proc.now.places)) rows.old }
-    ensures rows { IfOk result (λ _. (d : Decision) → Unfolds ground.entry.graph.now.nodes ground.entry.graph.now.entries to d → Adds (LeftOut ground.entry) (prefix.old.path.items ++ met ∷ []) (prefix_forms prefix.old ++ comparison_form (comparison_at forms.old.terms sides) ∷ []) (paths_down (tree_from ground.entry course d) (terms_of forms.old.terms env.old)) rows.old rows.new) }
+    ensures rows { IfOk result (λ _. (d : Decision) → Unfolds ground.entry.graph.now.nodes ground.entry.graph.now.entries to d → Adds (LeftOut ground.entry) ground.entry.bad (prefix.old.path.items ++ met ∷ []) (prefix_forms prefix.old ++ comparison_form (comparison_at forms.old.terms sides) ∷ []) (paths_down (tree_from ground.entry course d) (terms_of forms.old.terms env.old)) rows.old rows.new) }
     ensures kept { Keeps forms.old.terms forms.new.terms }
     ensures env { IfOk result (λ _. env.new ≡ env.old) }
     ensures same { IfOk result (λ _. IsSamePrefix prefix.old prefix.new) }
@@ -114,7 +137,7 @@ pub fn walk(
     requires prefix { IsPrefix (length ground.proc.now.places) forms.old.terms prefix.old }
     requires some { LeftOut ground (prefix_forms prefix.old) → ⊥ }
     requires sound { All (HasSoundLiterals (length ground.proc.now.places)) rows.old }
-    ensures rows { IfOk result (λ _. (d : Decision) → Unfolds ground.entry.graph.now.nodes ground.entry.graph.now.entries id d → Adds (LeftOut ground.entry) prefix.old.path.items (prefix_forms prefix.old) (paths_down (tree_from ground.entry course d) (terms_of forms.old.terms env.old)) rows.old rows.new) }
+    ensures rows { IfOk result (λ _. (d : Decision) → Unfolds ground.entry.graph.now.nodes ground.entry.graph.now.entries id d → Adds (LeftOut ground.entry) ground.entry.bad prefix.old.path.items (prefix_forms prefix.old) (paths_down (tree_from ground.entry course d) (terms_of forms.old.terms env.old)) rows.old rows.new) }
     ensures kept { Keeps forms.old.terms forms.new.terms }
     ensures env { IfOk result (λ _. env.new ≡ env.old) }
     ensures same { IfOk result (λ _. IsSamePrefix prefix.old prefix.new) }

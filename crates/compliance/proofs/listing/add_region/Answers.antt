@@ -2,11 +2,10 @@ use Rattle.std.proofs.Common.{sym, subst, Some, None, Ok, Err, OnOk}
 use Rattle.std.specs.Prelude.{Result}
 use Rattle.il_core.specs.declared.memory.NoMemory.{NoMemory}
 use Rattle.il_core.specs.Checked.{procedure_of}
-use Rattle.region_paths.specs.Listing.{IsLongPath}
 use Rattle.region_paths.specs.Size.{IsPast}
 use Rattle.region_paths.specs.Walk.{AreLines}
 use Rattle.region_paths.proofs.Sized.{begins}
-use Rattle.semantic_tables.specs.Table.{AreRowsOf}
+use Rattle.semantic_tables.specs.Hazards.{IsHazard, AreBareRowsOf}
 use Rattle.compliance.proofs.Bounded.{leading_inside}
 use Rattle.compliance.proofs.Regions.{threat_rows, adds_none, adds_threats}
 use Rattle.compliance.proofs.listing.add_region.Goals as goal
@@ -19,13 +18,13 @@ add_threats-requires-clause-leading c =
 pub add_threats-requires-clause-rows : goal.add_threats-requires-clause-rows
 add_threats-requires-clause-rows c =
     let b = begins (procedure_of c.args.proc.now) c.args.control.now c.args.pc c.requires.checked c.requires.control c.requires.shape c.requires.first in
-    let k : IsPast (procedure_of c.args.proc.now) c.args.control.now.loops c.args.pc None × AreRowsOf (IsLongPath (procedure_of c.args.proc.now) c.args.control.now.loops c.args.pc) c.in-Table.rows =
-    rw c.in-Table.is at c.in_ok-long_rows.ensures.rows in
+    let k : IsPast (procedure_of c.args.proc.now) c.args.control.now.loops c.args.pc None × AreBareRowsOf (IsHazard (procedure_of c.args.proc.now) c.args.control.now.loops c.args.pc) c.in-Table.rows =
+    rw c.in-Table.is at c.in_ok-hazards.ensures.rows in
     threat_rows (procedure_of c.args.proc.now) c.args.control.now.loops c.args.pc c.args.leading.now c.in-Table.rows c.ways_go_along_arcs.ensures b c.requires.leading k.1
 
 pub returns-in-Past : goal.returns-in-Past
 returns-in-Past c =
-    let k : IsPast (procedure_of c.args.proc.now) c.args.control.now.loops c.args.pc (Some c.in-Past.field-0) = rw c.in-Past.is at c.in_ok-long_rows.ensures.rows in
+    let k : IsPast (procedure_of c.args.proc.now) c.args.control.now.loops c.args.pc (Some c.in-Past.field-0) = rw c.in-Past.is at c.in_ok-hazards.ensures.rows in
     adds_none (procedure_of c.args.proc.now) c.args.control.now.loops c.args.pc c.in-Past.field-0 c.args.found.now k
 
 on_ok : (r : Result (Unit {0}) NoMemory) (X Y : Type 0) → (Y → X) → OnOk r Y → OnOk r X
@@ -35,8 +34,8 @@ on_ok (Err e) X Y f h = h
 pub returns-in-Table : goal.returns-in-Table
 returns-in-Table c =
     let b = begins (procedure_of c.args.proc.now) c.args.control.now c.args.pc c.requires.checked c.requires.control c.requires.shape c.requires.first in
-    let k : IsPast (procedure_of c.args.proc.now) c.args.control.now.loops c.args.pc None × AreRowsOf (IsLongPath (procedure_of c.args.proc.now) c.args.control.now.loops c.args.pc) c.in-Table.rows =
-    rw c.in-Table.is at c.in_ok-long_rows.ensures.rows in
+    let k : IsPast (procedure_of c.args.proc.now) c.args.control.now.loops c.args.pc None × AreBareRowsOf (IsHazard (procedure_of c.args.proc.now) c.args.control.now.loops c.args.pc) c.in-Table.rows =
+    rw c.in-Table.is at c.in_ok-hazards.ensures.rows in
     on_ok c.add_threats.result _ _
     (λ told.
     adds_threats (procedure_of c.args.proc.now) c.args.control.now.loops c.args.pc c.args.leading.now c.in-Table.rows c.args.found.now c.add_threats.new.found c.ways_go_along_arcs.ensures

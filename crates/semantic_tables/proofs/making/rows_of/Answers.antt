@@ -39,16 +39,16 @@ returns-clause-rows c =
       | then-branch+in_ok-walk w ↦
           let own : terms_of c.own_terms.new.forms.terms w.deref_mut.result.now ≡ own_values (length g.proc.now.places) =
           ap (terms_of c.own_terms.new.forms.terms) w.deref_mut.ensures.value ∙ c.in_ok-env.ensures.own ∙ ap own_values count in
-          subst (Adds (LeftOut g) [] [] paths []) (sym w.rows-is)
-          (subst (λ (rows : List Row). Adds (LeftOut g) [] [] paths rows w.walk.new.rows) c.new-rows.ensures
-          (adds_as (LeftOut g) c.new-prefix.result.path.items [] (prefix_forms c.new-prefix.result) [] (paths_down (tree_from g (Region c.args.room) d) (terms_of c.own_terms.new.forms.terms w.deref_mut.result.now)) paths
+          subst (Adds (LeftOut g) g.bad [] [] paths []) (sym w.rows-is)
+          (subst (λ (rows : List Row). Adds (LeftOut g) g.bad [] [] paths rows w.walk.new.rows) c.new-rows.ensures
+          (adds_as (LeftOut g) g.bad c.new-prefix.result.path.items [] (prefix_forms c.new-prefix.result) [] (paths_down (tree_from g (Region c.args.room) d) (terms_of c.own_terms.new.forms.terms w.deref_mut.result.now)) paths
           c.new-rows.result w.walk.new.rows c.new-prefix.ensures.path none (ap (paths_down (tree_from g (Region c.args.room) d)) own)
           (w.in_ok-walk.ensures.rows d w.first_node-first.ensures.unfolds)))
       | else-branch w ↦
           let out : LeftOut g (map literal_form_of c.deref.result.now) =
           if_false c.in_ok-is_open.field-0 (LeftOut g (map literal_form_of c.deref.result.now) → ⊥) (LeftOut g (map literal_form_of c.deref.result.now)) c.in_ok-is_open.ensures w.if-branch.false in
           let left : LeftOut g [] = subst (LeftOut g) (ap (map literal_form_of) (c.deref.ensures.value ∙ c.new-prefix.ensures.literals)) out in
-          subst (Adds (LeftOut g) [] [] paths []) (sym (w.rows-is ∙ c.new-rows.ensures)) (adds_none (LeftOut g) [] [] paths [] (λ x. out_stays c.refuted_stays_refuted.ensures g [] x left))
+          subst (Adds (LeftOut g) g.bad [] [] paths []) (sym (w.rows-is ∙ c.new-rows.ensures)) (adds_none (LeftOut g) g.bad [] [] paths [] (λ x. out_stays c.refuted_stays_refuted.ensures g [] x left))
     ]
 
 pub returns-clause-sound : goal.returns-clause-sound

@@ -36,10 +36,10 @@ returns-clause-rows c =
     let b = begins (procedure_of c.args.proc.now) c.args.control.now c.args.pc c.lines.ensures.checked c.requires.control c.requires.shape c.requires.first in
     let room : c.len-room.result ≡ length (procedure_of c.args.proc.now).lines = c.len-room.ensures ∙ ap length c.lines.ensures.value ∙ sym (length-map c.args.proc.now.lines instruction_of) in
     let past : IsPast (procedure_of c.args.proc.now) c.args.control.now.loops c.args.pc None = subst (IsPast (procedure_of c.args.proc.now) c.args.control.now.loops c.args.pc) c.in_default.is c.in_ok-limit.ensures in
-    made_table (procedure_of c.args.proc.now) c.args.control.now.loops c.as_slice-loops.result.now c.args.pc c.len-room.result c.args.long c.in_ok-rows_of.field-0 c.paths_are_listed.ensures b past
+    made_table (procedure_of c.args.proc.now) c.args.control.now.loops c.as_slice-loops.result.now c.args.pc c.len-room.result c.args.long c.args.bad c.in_ok-rows_of.field-0 c.paths_are_listed.ensures b past
     c.as_slice-loops.ensures room c.in_ok-rows_of.ensures.rows
 
 pub returns-in-Some-clause-rows : goal.returns-in-Some-clause-rows
 returns-in-Some-clause-rows c =
-    past_for (procedure_of c.args.proc.now) c.args.control.now.loops c.args.pc c.args.long c.in-Some.limit
+    past_for (procedure_of c.args.proc.now) c.args.control.now.loops c.args.pc c.args.long c.args.bad c.in-Some.limit
     (subst (IsPast (procedure_of c.args.proc.now) c.args.control.now.loops c.args.pc) c.in-Some.is c.in_ok-limit.ensures)

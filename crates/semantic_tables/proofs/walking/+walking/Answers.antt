@@ -319,16 +319,16 @@ walk_side-returns-clause-rows t c = λ d u.
     let more = prefix_added n old c.args.prefix.now c.add.new.self c.args.sides c.requires.prefix c.requires.sides c.in_ok-add.ensures.sides c.in_ok-add.ensures.literals in
     elim c.if-branch.branch [
       | walk_side-then-branch+in_ok-walk w ↦
-          subst (Adds (LeftOut g) path fs paths c.args.rows.now) (sym w.rows-is)
-          (adds_as (LeftOut g) c.add.new.self.path.items path (prefix_forms c.add.new.self) fs (paths_down (tree_from g c.args.course d) (terms_of c.add.new.forms.terms env)) paths c.args.rows.now w.walk.new.rows
+          subst (Adds (LeftOut g) g.bad path fs paths c.args.rows.now) (sym w.rows-is)
+          (adds_as (LeftOut g) g.bad c.add.new.self.path.items path (prefix_forms c.add.new.self) fs (paths_down (tree_from g c.args.course d) (terms_of c.add.new.forms.terms env)) paths c.args.rows.now w.walk.new.rows
           c.in_ok-add.ensures.path more.1 (ap (λ (ts : List TermNode). paths_down (tree_from g c.args.course d) (terms_of ts env)) c.in_ok-add.ensures.terms)
           (w.in_ok-walk.ensures.rows d u))
       | walk_side-else-branch w ↦
           let out : LeftOut g (map literal_form_of c.deref.result.now) =
           if_false c.in_ok-is_open.field-0 (LeftOut g (map literal_form_of c.deref.result.now) → ⊥) (LeftOut g (map literal_form_of c.deref.result.now)) c.in_ok-is_open.ensures w.if-branch.false in
           let left : LeftOut g fs = subst (LeftOut g) (ap (map literal_form_of) c.deref.ensures.value ∙ more.1) out in
-          subst (Adds (LeftOut g) path fs paths c.args.rows.now) (sym w.rows-is)
-          (adds_none (LeftOut g) path fs paths c.args.rows.now (λ x. out_stays c.refuted_stays_refuted.ensures g fs x left))
+          subst (Adds (LeftOut g) g.bad path fs paths c.args.rows.now) (sym w.rows-is)
+          (adds_none (LeftOut g) g.bad path fs paths c.args.rows.now (λ x. out_stays c.refuted_stays_refuted.ensures g fs x left))
     ]
 
 pub walk_side-returns-clause-same : goal.walk_side-returns-clause-same
