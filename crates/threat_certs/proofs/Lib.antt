@@ -1,0 +1,2 @@
+mod Quantities
+mod Accepted

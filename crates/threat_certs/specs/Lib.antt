@@ -1,0 +1,4 @@
+pub mod Certificate
+pub mod Quantity
+pub mod Acceptance
+pub mod Laws

@@ -1,0 +1,16 @@
+//! Laws of accepted certificates, as contracts of functions that do nothing.
+ghost use Rattle.threat_certs.specs.Laws.{AcceptedThreatsHaveNoInput, AcceptedThreatsAreNotTaken};
+
+use compliance::threats_are_taken_where_met;
+
+/// Where a certificate is accepted for some literals, no input of the region meets them all.
+pub fn accepted_threats_have_no_input()
+    ensures { AcceptedThreatsHaveNoInput }
+{}
+
+/// Where a certificate is accepted for the literals of a threat, no input of its region takes it.
+pub fn accepted_threats_are_not_taken()
+    ensures { AcceptedThreatsAreNotTaken }
+{
+    threats_are_taken_where_met();
+}
