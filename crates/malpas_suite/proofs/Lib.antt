@@ -1,2 +1,3 @@
 mod Regions
 mod Safe
+mod SliceRows

@@ -9,6 +9,7 @@ ghost use Rattle.interval_reduce.specs.Derivation.{IsDerivationOf, Reduces};
 ghost use Rattle.report.specs.Reported.{AreAnalyses, AreAnalysesBy, IsProcReportOf};
 ghost use Rattle.report.specs.Headline.{TellsOfRuns};
 
+use crate::slices::slices_of;
 use crate::tables::tables_of;
 use compliance::threats;
 use control_flow::{Control, Shape, control_of};
@@ -48,6 +49,7 @@ fn analyses_of(
         paths: paths(alloc, graph, order)?,
         usage: data_use(alloc, graph, places, order)?,
         flows: flows(alloc, graph, places, order)?,
+        slices: slices_of(alloc, proc, graph, places, order)?,
         tables: tables_of(alloc, proc, &tests, control, derivation)?,
         threats: threats(alloc, proc, &tests, control, derivation)?,
     })
@@ -81,7 +83,8 @@ fn analyses_by(
 /// intervals (Allen and Cocke, A program data flow analysis procedure, 1976) and, exactly where that structure is
 /// reducible, its analyses: all paths as one expression over the arcs (Carré, An algebra for network routing problems,
 /// 1971), the use of each variable (by elimination, Carré, Graphs and Networks, 1979), what its final value rests on
-/// (after Bergeretti and Carré, Information-flow and data-flow analysis of while-programs, 1985), the table of each
+/// (after Bergeretti and Carré, Information-flow and data-flow analysis of while-programs, 1985), the slice for each
+/// variable (Weiser, Program slicing, 1984), the table of each
 /// region (King, Symbolic execution and program testing, 1976) and the threats to it, each with its verdict (by inductive
 /// assertions, Floyd, Assigning meanings to programs, 1967). So `analyses` is `None` exactly where some cycle can be
 /// entered first at two lines.
@@ -92,7 +95,7 @@ fn analyses_by(
 /// states agree on the sources of a row of flow, end with equal values of its variable.
 ///
 /// The structure and the derivation take time at most quadratic in the lines, and the rest that of `paths`, `data_use`,
-/// `flows`, `table` and `threats`: eliminations, for each variable rounds of questions about tests, and walks over the
+/// `flows`, `slice`, `table` and `threats`: eliminations, for each variable rounds of questions about tests, and walks over the
 /// paths of the regions, of which each has at most 16,384 within its size. The only error is `NoMemory`.
 pub fn analyse_proc(alloc: Global, proc: &CheckedProc) -> Result<ProcReport, NoMemory>
     ensures report { IfOk result (IsProcReportOf (text_procedure proc.now)) }

@@ -6,6 +6,7 @@
 #![tactic(auto)]
 
 mod analysis;
+mod slices;
 mod tables;
 mod whole;
 

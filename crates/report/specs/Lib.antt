@@ -1,3 +1,4 @@
 pub mod Status
+pub mod Sliced
 pub mod Reported
 pub mod Headline

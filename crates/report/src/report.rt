@@ -2,6 +2,7 @@ use compliance::Threat;
 use control_flow::Control;
 use data_use::UseRow;
 use flow_graph::Arc;
+use flow_slice::Fixed;
 use il_core::{List, Name, Place};
 use info_flow::FlowRow;
 use interval_reduce::Derivation;
@@ -17,6 +18,17 @@ pub struct RegionTable {
     pub body: TableOr,
 }
 
+/// What the slice for one variable keeps and fixes.
+#[derive(Drop)]
+pub struct SliceRow {
+    /// The number of the variable.
+    pub place: usize,
+    /// The reachable lines that decide its final value, ascending.
+    pub keep: List<usize>,
+    /// The reachable tests that the slice fixes, ascending.
+    pub fixed: List<Fixed>,
+}
+
 /// What is told of a reducible procedure alone.
 #[derive(Drop)]
 pub struct Analyses {
@@ -26,6 +38,8 @@ pub struct Analyses {
     pub usage: List<UseRow>,
     /// What the final value of each variable rests on, in the order of the places.
     pub flows: List<FlowRow>,
+    /// The slice for each variable, in the order of the places.
+    pub slices: List<SliceRow>,
     /// The table of each region, by their first lines.
     pub tables: List<RegionTable>,
     /// The threats of all regions within their size, in order, each with its verdict.

@@ -1,4 +1,5 @@
 pub mod Sections
+pub mod Slices
 pub mod Path
 pub mod Tables
 pub mod Threats

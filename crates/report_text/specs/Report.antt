@@ -6,6 +6,7 @@ use Rattle.report.specs.declared.report.ProcReport.{ProcReport}
 use Rattle.report.specs.declared.report.Report.{Report}
 use Rattle.request.specs.declared.selection.Selection.{Selection}
 use Rattle.report_text.specs.Sections.{control_text, usage_text, flows_text, paths_text}
+use Rattle.report_text.specs.Slices.{slices_text}
 use Rattle.report_text.specs.Tables.{tables_text}
 use Rattle.report_text.specs.Threats.{threats_text}
 
@@ -27,6 +28,9 @@ usage_section p = elim p.analyses [ None ↦ codes "USE\n" ++ not_reported | Som
 unfoldable pub flow_section : ProcReport → List ℕ
 flow_section p = elim p.analyses [ None ↦ codes "FLOW\n" ++ not_reported | Some a ↦ flows_text p.places a.flows ]
 
+unfoldable pub slice_section : ProcReport → List ℕ
+slice_section p = elim p.analyses [ None ↦ codes "SLICE\n" ++ not_reported | Some a ↦ slices_text p.places a.slices ]
+
 unfoldable pub paths_section : ProcReport → List ℕ
 paths_section p = elim p.analyses [ None ↦ codes "PATHS\n" ++ not_reported | Some a ↦ paths_text p.arcs a.paths ]
 
@@ -43,8 +47,8 @@ title_text p = codes "PROCEDURE " ++ p.name ++ codes " LINES " ++ decimal p.line
 -- the part of a procedure
 unfoldable pub part_text : Selection → ProcReport → List ℕ
 part_text selection p = title_text p ++ chosen selection.control (control_text p.control p.derivation) ++ chosen selection.usage (usage_section p)
-    ++ chosen selection.flow (flow_section p) ++ chosen selection.paths (paths_section p) ++ chosen selection.semantic (semantic_section p)
-    ++ chosen selection.compliance (compliance_section p)
+    ++ chosen selection.flow (flow_section p) ++ chosen selection.slice (slice_section p) ++ chosen selection.paths (paths_section p)
+    ++ chosen selection.semantic (semantic_section p) ++ chosen selection.compliance (compliance_section p)
 
 -- the last line
 unfoldable pub end_text : ℕ → List ℕ

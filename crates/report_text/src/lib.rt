@@ -16,6 +16,7 @@ mod part;
 mod paths;
 mod refusal;
 mod sections;
+mod slices;
 mod stops;
 mod tables;
 mod threats;

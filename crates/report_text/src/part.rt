@@ -2,13 +2,13 @@ ghost use Rattle.std.specs.Prelude.{◌≡◌};
 ghost use Rattle.il_edge.specs.Faults.{HasCause};
 ghost use Rattle.il_edge.specs.Known.{SameTold};
 ghost use Rattle.form_text.specs.Pieces.{Puts, Writes};
-ghost use Rattle.report_text.specs.Report.{chosen, compliance_section, flow_section, part_text, paths_section, semantic_section, title_text, usage_section};
+ghost use Rattle.report_text.specs.Report.{chosen, compliance_section, flow_section, part_text, paths_section, semantic_section, slice_section, title_text, usage_section};
 ghost use Rattle.report_text.specs.Sections.{control_text};
 
 use crate::control::put_control;
 use crate::sections::{
     put_compliance_section, put_flow_section, put_paths_section, put_semantic_section,
-    put_usage_section,
+    put_slice_section, put_usage_section,
 };
 use form_text::put;
 use il_edge::{Failed, Sink};
@@ -79,6 +79,16 @@ fn put_chosen_flow<K: Sink>(selected: bool, part: &ProcReport, sink: &mut K) -> 
     }
 }
 
+fn put_chosen_slice<K: Sink>(selected: bool, part: &ProcReport, sink: &mut K) -> Result<(), Failed>
+    ensures { Puts K.held K.settled K.faults sink.old sink.new result (chosen selected (slice_section part.now)) }
+{
+    if selected {
+        put_slice_section(part, sink)
+    } else {
+        Ok(())
+    }
+}
+
 fn put_chosen_paths<K: Sink>(selected: bool, part: &ProcReport, sink: &mut K) -> Result<(), Failed>
     ensures text { Writes (K.held sink.old) (K.held sink.new) result (chosen selected (paths_section part.now)) }
     ensures told { SameTold (K.held sink.old) (K.held sink.new) }
@@ -139,6 +149,7 @@ pub fn put_part<K: Sink>(
     put_chosen_control(selection.control, part, sink)?;
     put_chosen_usage(selection.usage, part, sink)?;
     put_chosen_flow(selection.flow, part, sink)?;
+    put_chosen_slice(selection.slice, part, sink)?;
     put_chosen_paths(selection.paths, part, sink)?;
     put_chosen_semantic(selection.semantic, part, sink)?;
     put_chosen_compliance(selection.compliance, part, sink)

@@ -2,10 +2,11 @@ ghost use Rattle.std.specs.Prelude.{◌≡◌};
 ghost use Rattle.il_edge.specs.Faults.{HasCause};
 ghost use Rattle.il_edge.specs.Known.{SameTold};
 ghost use Rattle.form_text.specs.Pieces.{Puts, Writes};
-ghost use Rattle.report_text.specs.Report.{compliance_section, flow_section, paths_section, semantic_section, usage_section};
+ghost use Rattle.report_text.specs.Report.{compliance_section, flow_section, paths_section, semantic_section, slice_section, usage_section};
 
 use crate::flows::put_flows;
 use crate::paths::put_paths;
+use crate::slices::put_slices;
 use crate::tables::put_tables;
 use crate::threats::put_threats;
 use crate::usage::put_usage;
@@ -40,6 +41,17 @@ pub(crate) fn put_flow_section<K: Sink>(part: &ProcReport, sink: &mut K) -> Resu
     match &part.analyses {
         None => put(sink, &[b"FLOW\nNOT REPORTED IRREDUCIBLE\n"]),
         Some(analyses) => put_flows(part.places.as_slice(), analyses.flows.as_slice(), sink),
+    }
+}
+
+/// Writes the section on slices, or that it is not given. It fails as the one on use does.
+#[tactic(auto, unfolding(crate::specs::Report::slice_section))]
+pub(crate) fn put_slice_section<K: Sink>(part: &ProcReport, sink: &mut K) -> Result<(), Failed>
+    ensures { Puts K.held K.settled K.faults sink.old sink.new result (slice_section part.now) }
+{
+    match &part.analyses {
+        None => put(sink, &[b"SLICE\nNOT REPORTED IRREDUCIBLE\n"]),
+        Some(analyses) => put_slices(part.places.as_slice(), analyses.slices.as_slice(), sink),
     }
 }
 

@@ -4,8 +4,8 @@ use Rattle.std.specs.Prelude.{Option, Some, None, codes, bytes_eq, not}
 use Rattle.std.proofs.lemmas.Slice.Eq.{bytes_eq-Decides}
 use Rattle.request.specs.declared.selection.Selection.{Selection}
 use Rattle.request.specs.declared.section.Section.{Section}
-use Rattle.request.specs.declared.section.Section.TheVariants.{Control, Usage, Flow, Paths, Semantic, Compliance}
-use Rattle.request.specs.Words.{section_word, named, selected, every_section}
+use Rattle.request.specs.declared.section.Section.TheVariants.{Control, Usage, Flow, Slice, Paths, Semantic, Compliance}
+use Rattle.request.specs.Words.{section_word, named, selected, six_reports}
 use Rattle.request.specs.Reading.{section_of, with_section, selection_of}
 use Rattle.request.proofs.Numbers.{not_some}
 
@@ -15,6 +15,7 @@ unfolding section_of
 word_named Control = refl
 word_named Usage = refl
 word_named Flow = refl
+word_named Slice = refl
 word_named Paths = refl
 word_named Semantic = refl
 word_named Compliance = refl
@@ -34,9 +35,10 @@ named_word word s h =
     chosen word (codes "--control") Control s _ refl
     (chosen word (codes "--use") Usage s _ refl
     (chosen word (codes "--flow") Flow s _ refl
+    (chosen word (codes "--slice") Slice s _ refl
     (chosen word (codes "--paths") Paths s _ refl
     (chosen word (codes "--semantic") Semantic s _ refl
-    (chosen word (codes "--compliance") Compliance s None refl (λ g. absurd (not_some s g))))))) h
+    (chosen word (codes "--compliance") Compliance s None refl (λ g. absurd (not_some s g)))))))) h
 
 -- these sections, with those that were selected before
 abbrev pub adding : Selection → List Section → Selection
@@ -49,13 +51,14 @@ joined a b = record {
   control = a.control || b.control;
   usage = a.usage || b.usage;
   flow = a.flow || b.flow;
+  slice = a.slice || b.slice;
   paths = a.paths || b.paths;
   semantic = a.semantic || b.semantic;
   compliance = a.compliance || b.compliance;
 }
 
 abbrev pub no_section : Selection
-no_section = record { control = false; usage = false; flow = false; paths = false; semantic = false; compliance = false }
+no_section = record { control = false; usage = false; flow = false; slice = false; paths = false; semantic = false; compliance = false }
 
 or_true : (b : Bool) → (b || true) ≡ true
 or_true true = refl
@@ -66,6 +69,7 @@ joined_more : (s : Selection) (x : Section) (xs : List Section) → joined (with
 joined_more s Control xs = ap (λ (b : Bool). record (joined s (named (Control ∷ xs))) { control = b }) (sym (or_true s.control))
 joined_more s Usage xs = ap (λ (b : Bool). record (joined s (named (Usage ∷ xs))) { usage = b }) (sym (or_true s.usage))
 joined_more s Flow xs = ap (λ (b : Bool). record (joined s (named (Flow ∷ xs))) { flow = b }) (sym (or_true s.flow))
+joined_more s Slice xs = ap (λ (b : Bool). record (joined s (named (Slice ∷ xs))) { slice = b }) (sym (or_true s.slice))
 joined_more s Paths xs = ap (λ (b : Bool). record (joined s (named (Paths ∷ xs))) { paths = b }) (sym (or_true s.paths))
 joined_more s Semantic xs = ap (λ (b : Bool). record (joined s (named (Semantic ∷ xs))) { semantic = b }) (sym (or_true s.semantic))
 joined_more s Compliance xs = ap (λ (b : Bool). record (joined s (named (Compliance ∷ xs))) { compliance = b }) (sym (or_true s.compliance))
@@ -80,6 +84,7 @@ joined_none s =
     ap (λ (b : Bool). record (joined s (named [])) { control = b }) (or_false s.control)
     ∙ ap (λ (b : Bool). record (joined s (named [])) { control = s.control; usage = b }) (or_false s.usage)
     ∙ ap (λ (b : Bool). record (joined s (named [])) { control = s.control; usage = s.usage; flow = b }) (or_false s.flow)
+    ∙ ap (λ (b : Bool). record s { slice = b; paths = s.paths || false; semantic = s.semantic || false; compliance = s.compliance || false }) (or_false s.slice)
     ∙ ap (λ (b : Bool). record s { paths = b; semantic = s.semantic || false; compliance = s.compliance || false }) (or_false s.paths)
     ∙ ap (λ (b : Bool). record s { semantic = b; compliance = s.compliance || false }) (or_false s.semantic)
     ∙ ap (λ (b : Bool). record s { compliance = b }) (or_false s.compliance)
@@ -91,11 +96,12 @@ adding_joined s (x ∷ xs) = adding_joined (with_section s x) xs ∙ joined_more
 -- named sections are selected as they are
 selects : (x : Section) (xs : List Section) → selection_of (named (x ∷ xs)) ≡ named (x ∷ xs)
 selects Control xs = refl
-selects Usage xs = let n = named (Usage ∷ xs) in ap (λ (z : Bool). if not (z || n.flow || n.paths || n.semantic || n.compliance) then every_section else n) (or_true n.control)
-selects Flow xs = let n = named (Flow ∷ xs) in ap (λ (z : Bool). if not (z || n.paths || n.semantic || n.compliance) then every_section else n) (or_true (n.control || n.usage))
-selects Paths xs = let n = named (Paths ∷ xs) in ap (λ (z : Bool). if not (z || n.semantic || n.compliance) then every_section else n) (or_true (n.control || n.usage || n.flow))
-selects Semantic xs = let n = named (Semantic ∷ xs) in ap (λ (z : Bool). if not (z || n.compliance) then every_section else n) (or_true (n.control || n.usage || n.flow || n.paths))
-selects Compliance xs = let n = named (Compliance ∷ xs) in ap (λ (z : Bool). if not z then every_section else n) (or_true (n.control || n.usage || n.flow || n.paths || n.semantic))
+selects Usage xs = let n = named (Usage ∷ xs) in ap (λ (z : Bool). if not (z || n.flow || n.slice || n.paths || n.semantic || n.compliance) then six_reports else n) (or_true n.control)
+selects Flow xs = let n = named (Flow ∷ xs) in ap (λ (z : Bool). if not (z || n.slice || n.paths || n.semantic || n.compliance) then six_reports else n) (or_true (n.control || n.usage))
+selects Slice xs = let n = named (Slice ∷ xs) in ap (λ (z : Bool). if not (z || n.paths || n.semantic || n.compliance) then six_reports else n) (or_true (n.control || n.usage || n.flow))
+selects Paths xs = let n = named (Paths ∷ xs) in ap (λ (z : Bool). if not (z || n.semantic || n.compliance) then six_reports else n) (or_true (n.control || n.usage || n.flow || n.slice))
+selects Semantic xs = let n = named (Semantic ∷ xs) in ap (λ (z : Bool). if not (z || n.compliance) then six_reports else n) (or_true (n.control || n.usage || n.flow || n.slice || n.paths))
+selects Compliance xs = let n = named (Compliance ∷ xs) in ap (λ (z : Bool). if not z then six_reports else n) (or_true (n.control || n.usage || n.flow || n.slice || n.paths || n.semantic))
 
 -- once all words are read, the sections that they name are selected, or each where they name none
 pub selection_is : (xs : List Section) → selection_of (adding no_section xs) ≡ selected xs

@@ -6,9 +6,9 @@ use Rattle.request.specs.declared.asked.Asked.{Asked}
 use Rattle.request.specs.declared.asked.Number.{Number}
 use Rattle.request.specs.declared.asked.Number.TheVariants.{Untold, Due, Told}
 use Rattle.request.specs.declared.section.Section.{Section}
-use Rattle.request.specs.declared.section.Section.TheVariants.{Control, Usage, Flow, Paths, Semantic, Compliance}
+use Rattle.request.specs.declared.section.Section.TheVariants.{Control, Usage, Flow, Slice, Paths, Semantic, Compliance}
 use Rattle.request.specs.declared.spelt.Request.{Request}
-use Rattle.request.specs.Words.{every_section}
+use Rattle.request.specs.Words.{six_reports}
 
 -- the section that a word asks for
 unfoldable pub section_of : List ℕ → Option Section
@@ -16,10 +16,11 @@ section_of word =
     if bytes_eq word (codes "--control") then Some Control
     else (if bytes_eq word (codes "--use") then Some Usage
     else (if bytes_eq word (codes "--flow") then Some Flow
+    else (if bytes_eq word (codes "--slice") then Some Slice
     else (if bytes_eq word (codes "--paths") then Some Paths
     else (if bytes_eq word (codes "--semantic") then Some Semantic
     else (if bytes_eq word (codes "--compliance") then Some Compliance
-    else None)))))
+    else None))))))
 
 -- the number, up to this one, whose digits stand behind the front in the word
 unfoldable pub number_to : List ℕ → ℕ → List ℕ → Option ℕ
@@ -41,6 +42,7 @@ abbrev pub with_section : Selection → Section → Selection
 with_section s Control = record s { control = true }
 with_section s Usage = record s { usage = true }
 with_section s Flow = record s { flow = true }
+with_section s Slice = record s { slice = true }
 with_section s Paths = record s { paths = true }
 with_section s Semantic = record s { semantic = true }
 with_section s Compliance = record s { compliance = true }
@@ -66,10 +68,10 @@ abbrev pub after_word : Asked → List ℕ → Option Asked
 after_word asked word = after_at asked word asked.number
 
 abbrev pub is_none : Selection → Bool
-is_none s = not (s.control || s.usage || s.flow || s.paths || s.semantic || s.compliance)
+is_none s = not (s.control || s.usage || s.flow || s.slice || s.paths || s.semantic || s.compliance)
 
 abbrev pub selection_of : Selection → Selection
-selection_of s = if is_none s then every_section else s
+selection_of s = if is_none s then six_reports else s
 
 abbrev pub request_at : Selection → Number → Option Request
 request_at selection Untold = Some (record { selection = selection; generate = None })

@@ -3,7 +3,7 @@ use Rattle.std.specs.Prelude.{◌≡◌, ℕ, ◌≤◌, Bool, true, false, List
 use Rattle.std.specs.List.{flat_map, list_any}
 use Rattle.request.specs.declared.selection.Selection.{Selection}
 use Rattle.request.specs.declared.section.Section.{Section}
-use Rattle.request.specs.declared.section.Section.TheVariants.{Control, Usage, Flow, Paths, Semantic, Compliance}
+use Rattle.request.specs.declared.section.Section.TheVariants.{Control, Usage, Flow, Slice, Paths, Semantic, Compliance}
 use Rattle.request.specs.declared.spelt.Request.{Request}
 
 -- what one or two words ask for: a section, or a text of this number, which is told apart or in the same word
@@ -17,6 +17,7 @@ abbrev pub section_word : Section → List ℕ
 section_word Control = codes "--control"
 section_word Usage = codes "--use"
 section_word Flow = codes "--flow"
+section_word Slice = codes "--slice"
 section_word Paths = codes "--paths"
 section_word Semantic = codes "--semantic"
 section_word Compliance = codes "--compliance"
@@ -51,6 +52,10 @@ abbrev pub is_flow : Section → Bool
 is_flow Flow = true
 is_flow _ = false
 
+abbrev pub is_slice : Section → Bool
+is_slice Slice = true
+is_slice _ = false
+
 abbrev pub is_paths : Section → Bool
 is_paths Paths = true
 is_paths _ = false
@@ -69,18 +74,19 @@ named sections = record {
   control = list_any is_control sections;
   usage = list_any is_usage sections;
   flow = list_any is_flow sections;
+  slice = list_any is_slice sections;
   paths = list_any is_paths sections;
   semantic = list_any is_semantic sections;
   compliance = list_any is_compliance sections;
 }
 
--- each section
-abbrev pub every_section : Selection
-every_section = record { control = true; usage = true; flow = true; paths = true; semantic = true; compliance = true }
+-- the six reports: each section but the slices
+abbrev pub six_reports : Selection
+six_reports = record { control = true; usage = true; flow = true; slice = false; paths = true; semantic = true; compliance = true }
 
--- the sections that are asked for, or each where none is
+-- the sections that are asked for, or the six reports where none is
 abbrev pub selected : List Section → Selection
-selected [] = every_section
+selected [] = six_reports
 selected (s ∷ ss) = named (s ∷ ss)
 
 -- the list of what is there

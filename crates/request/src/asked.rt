@@ -29,16 +29,18 @@ const NONE: Selection = Selection {
     control: false,
     usage: false,
     flow: false,
+    slice: false,
     paths: false,
     semantic: false,
     compliance: false,
 };
 
-/// Each section.
-const ALL: Selection = Selection {
+/// The six reports: each section but the slices.
+const SIX: Selection = Selection {
     control: true,
     usage: true,
     flow: true,
+    slice: false,
     paths: true,
     semantic: true,
     compliance: true,
@@ -58,6 +60,7 @@ fn with_section(sections: Selection, section: Section) -> Selection
         Section::Control => sections.control = true,
         Section::Usage => sections.usage = true,
         Section::Flow => sections.flow = true,
+        Section::Slice => sections.slice = true,
         Section::Paths => sections.paths = true,
         Section::Semantic => sections.semantic = true,
         Section::Compliance => sections.compliance = true,
@@ -109,11 +112,11 @@ pub(crate) fn after_word(asked: Asked, word: &str) -> Option<Asked>
     }
 }
 
-/// The sections that are named, or all where none is.
+/// The sections that are named, or the six reports where none is.
 fn selection_of(sections: Selection) -> Selection
     ensures { result ≡ selection_of sections }
 {
-    if sections == NONE { ALL } else { sections }
+    if sections == NONE { SIX } else { sections }
 }
 
 /// The request that is asked for, unless a number is still due.

@@ -7,6 +7,8 @@ pub struct Selection {
     pub usage: bool,
     /// The flow of information.
     pub flow: bool,
+    /// The slices.
+    pub slice: bool,
     /// The path expression.
     pub paths: bool,
     /// The tables of the regions.

@@ -19,14 +19,18 @@ pub returns-in_err-put_chosen_flow-clause-text : goal.returns-in_err-put_chosen_
 unfolding part_text
 returns-in_err-put_chosen_flow-clause-text g c = simp append_assoc (writes_failed _ _ _ _ c.from_residual-in_err-put_chosen_flow.ensures.0 (prefix_behind _ _ _ _ _ c.in_ok-put_title.ensures.text (prefix_behind _ _ _ _ _ c.in_ok-put_chosen_control.ensures.text (prefix_behind _ _ _ _ _ c.in_ok-put_chosen_usage.ensures.text (prefix_more _ _ _ _ c.in_err-put_chosen_flow.ensures.text)))))
 
+pub returns-in_err-put_chosen_slice-clause-text : goal.returns-in_err-put_chosen_slice-clause-text
+unfolding part_text
+returns-in_err-put_chosen_slice-clause-text g c = simp append_assoc (writes_failed _ _ _ _ c.from_residual-in_err-put_chosen_slice.ensures.0 (prefix_behind _ _ _ _ _ c.in_ok-put_title.ensures.text (prefix_behind _ _ _ _ _ c.in_ok-put_chosen_control.ensures.text (prefix_behind _ _ _ _ _ c.in_ok-put_chosen_usage.ensures.text (prefix_behind _ _ _ _ _ c.in_ok-put_chosen_flow.ensures.text (prefix_more _ _ _ _ c.in_err-put_chosen_slice.ensures.text))))))
+
 pub returns-in_err-put_chosen_paths-clause-text : goal.returns-in_err-put_chosen_paths-clause-text
 unfolding part_text
-returns-in_err-put_chosen_paths-clause-text g c = simp append_assoc (writes_failed _ _ _ _ c.from_residual-in_err-put_chosen_paths.ensures.0 (prefix_behind _ _ _ _ _ c.in_ok-put_title.ensures.text (prefix_behind _ _ _ _ _ c.in_ok-put_chosen_control.ensures.text (prefix_behind _ _ _ _ _ c.in_ok-put_chosen_usage.ensures.text (prefix_behind _ _ _ _ _ c.in_ok-put_chosen_flow.ensures.text (prefix_more _ _ _ _ c.in_err-put_chosen_paths.ensures.text))))))
+returns-in_err-put_chosen_paths-clause-text g c = simp append_assoc (writes_failed _ _ _ _ c.from_residual-in_err-put_chosen_paths.ensures.0 (prefix_behind _ _ _ _ _ c.in_ok-put_title.ensures.text (prefix_behind _ _ _ _ _ c.in_ok-put_chosen_control.ensures.text (prefix_behind _ _ _ _ _ c.in_ok-put_chosen_usage.ensures.text (prefix_behind _ _ _ _ _ c.in_ok-put_chosen_flow.ensures.text (prefix_behind _ _ _ _ _ c.in_ok-put_chosen_slice.ensures.text (prefix_more _ _ _ _ c.in_err-put_chosen_paths.ensures.text)))))))
 
 pub returns-in_err-put_chosen_semantic-clause-text : goal.returns-in_err-put_chosen_semantic-clause-text
 unfolding part_text
-returns-in_err-put_chosen_semantic-clause-text g c = simp append_assoc (writes_failed _ _ _ _ c.from_residual-in_err-put_chosen_semantic.ensures.0 (prefix_behind _ _ _ _ _ c.in_ok-put_title.ensures.text (prefix_behind _ _ _ _ _ c.in_ok-put_chosen_control.ensures.text (prefix_behind _ _ _ _ _ c.in_ok-put_chosen_usage.ensures.text (prefix_behind _ _ _ _ _ c.in_ok-put_chosen_flow.ensures.text (prefix_behind _ _ _ _ _ c.in_ok-put_chosen_paths.ensures.text (prefix_more _ _ _ _ c.in_err-put_chosen_semantic.ensures.text)))))))
+returns-in_err-put_chosen_semantic-clause-text g c = simp append_assoc (writes_failed _ _ _ _ c.from_residual-in_err-put_chosen_semantic.ensures.0 (prefix_behind _ _ _ _ _ c.in_ok-put_title.ensures.text (prefix_behind _ _ _ _ _ c.in_ok-put_chosen_control.ensures.text (prefix_behind _ _ _ _ _ c.in_ok-put_chosen_usage.ensures.text (prefix_behind _ _ _ _ _ c.in_ok-put_chosen_flow.ensures.text (prefix_behind _ _ _ _ _ c.in_ok-put_chosen_slice.ensures.text (prefix_behind _ _ _ _ _ c.in_ok-put_chosen_paths.ensures.text (prefix_more _ _ _ _ c.in_err-put_chosen_semantic.ensures.text))))))))
 
 pub returns-clause-text : goal.returns-clause-text
 unfolding part_text
-returns-clause-text g c = simp append_assoc (writes_behind _ _ _ _ _ _ c.in_ok-put_title.ensures.text (writes_behind _ _ _ _ _ _ c.in_ok-put_chosen_control.ensures.text (writes_behind _ _ _ _ _ _ c.in_ok-put_chosen_usage.ensures.text (writes_behind _ _ _ _ _ _ c.in_ok-put_chosen_flow.ensures.text (writes_behind _ _ _ _ _ _ c.in_ok-put_chosen_paths.ensures.text (writes_behind _ _ _ _ _ _ c.in_ok-put_chosen_semantic.ensures.text c.put_chosen_compliance.ensures.text))))))
+returns-clause-text g c = simp append_assoc (writes_behind _ _ _ _ _ _ c.in_ok-put_title.ensures.text (writes_behind _ _ _ _ _ _ c.in_ok-put_chosen_control.ensures.text (writes_behind _ _ _ _ _ _ c.in_ok-put_chosen_usage.ensures.text (writes_behind _ _ _ _ _ _ c.in_ok-put_chosen_flow.ensures.text (writes_behind _ _ _ _ _ _ c.in_ok-put_chosen_slice.ensures.text (writes_behind _ _ _ _ _ _ c.in_ok-put_chosen_paths.ensures.text (writes_behind _ _ _ _ _ _ c.in_ok-put_chosen_semantic.ensures.text c.put_chosen_compliance.ensures.text)))))))
