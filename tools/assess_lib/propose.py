@@ -3,7 +3,7 @@
 from __future__ import annotations
 
 import time
-from dataclasses import dataclass, replace
+from dataclasses import dataclass, field, replace
 from typing import Optional, TextIO
 
 from assess_lib.analysis import Analysis, read_source, understood
@@ -12,6 +12,7 @@ from assess_lib.program import Program, Runner, Status, meaning_of
 from assess_lib.propose_forms import Forms
 from assess_lib.propose_search import Candidate, Search, left_of, total_of
 from assess_lib.propose_text import Spot, spot_of
+from assess_lib.report import Report
 from assess_lib.report_reader import read_report
 from assess_lib.source import SourceText
 
@@ -63,6 +64,7 @@ class Proposal:
     letters: str
     proposed: int = 0
     kept: int = 0
+    notes: list[str] = field(default_factory=list)
 
 
 def _spots(found: Analysis, number: int) -> list[Spot]:
@@ -90,25 +92,45 @@ def _in_procedure(found: Analysis, number: int, runner: Runner, progress: Progre
     return search, search.thin(standing)
 
 
-def propose_in(source: SourceText, found: Analysis, runner: Runner, progress: Progress) -> Proposal:
-    """Proposes assertions in each procedure in turn, from the last to the first, so that earlier places stay."""
-    proposal = Proposal(source.letters)
+def _why_not(found: Analysis, number: int) -> Optional[str]:
+    """Why nothing is proposed in a procedure that leaves something open; empty where nothing is open, else None."""
+    report = found.procedures[number].report
+    left, past = left_of(report)
+    if not report.reducible:
+        return "not reducible, so nothing is proposed"
+    if left and not report.control.loops:
+        return "no loop, so nothing is proposed"
+    if past:
+        return "a region is past its size, so no verdict would tell which assertions hold, and nothing is proposed"
+    return None if left else ""
+
+
+def propose_in(found: Analysis, runner: Runner, progress: Progress) -> Proposal:
+    """Proposes assertions in each procedure in turn, in the text that the ones before came to."""
+    proposal = Proposal(found.source.letters)
     for number in range(len(found.procedures)):
-        outcome = runner.run(proposal.letters.encode("latin-1"))
-        found = understood(found.file, SourceText(proposal.letters.encode("latin-1")), outcome, None)
-        if found.report is None or not _spots(found, number) or left_of(found.procedures[number].report)[0] == 0:
-            continue
-        search, kept = _in_procedure(found, number, runner, progress)
-        text = search.text(kept)
-        after = read_report(runner.run(text.encode("latin-1")).output)
-        proposal.proposed += len(search.proposed)
-        if after is not None and _open(after) <= _open(found.report):
-            proposal.letters = text
-            proposal.kept += len(kept)
+        data = proposal.letters.encode("latin-1")
+        found = understood(found.file, SourceText(data), runner.run(data), None)
+        why = _why_not(found, number)
+        if why:
+            proposal.notes.append(f"{found.procedures[number].report.name}: {why}")
+        if why is None and found.report is not None and _spots(found, number):
+            search, kept = _in_procedure(found, number, runner, progress)
+            proposal.proposed += len(search.proposed)
+            _take(proposal, found.report, search, kept, runner)
     return proposal
 
 
-def _open(report) -> int:
+def _take(proposal: Proposal, before: Report, search: Search, kept: list[Candidate], runner: Runner) -> None:
+    """Takes the kept candidates into the text, where no procedure gets worse by them."""
+    text = search.text(kept)
+    after = read_report(runner.run(text.encode("latin-1")).output)
+    if kept and after is not None and _open(after) <= _open(before):
+        proposal.letters = text
+        proposal.kept += len(kept)
+
+
+def _open(report: Report) -> int:
     """The threats of all procedures that are not FALSE."""
     threats, refuted = total_of(report)
     return threats - refuted
@@ -127,7 +149,10 @@ def _write(letters: str, out: TextIO) -> None:
 
 def _closing(file: str, proposal: Proposal, before: tuple[int, int], after: tuple[int, int], seconds: float) -> str:
     """The last line on standard error."""
-    helped = "" if proposal.kept else "nothing helps, so the text stands as it was; "
+    helped = ""
+    if not proposal.kept:
+        why = "nothing is left to help" if before[0] == before[1] and not proposal.notes else "nothing helps"
+        helped = f"{why}, so the text stands as it was; "
     return (
         f"{file}: {helped}{proposal.proposed} assertions proposed, {proposal.kept} kept; threats FALSE "
         f"{before[1]} of {before[0]} before, {after[1]} of {after[0]} after; {seconds:.1f} seconds"
@@ -151,12 +176,14 @@ def propose(file: str, program: Program, out: TextIO, errors: TextIO) -> int:
         return outcome.status or int(Status.NO_MEMORY)
     progress = Progress(errors)
     try:
-        proposal = propose_in(source, found, runner, progress)
+        proposal = propose_in(found, runner, progress)
     finally:
         progress.end()
     last = runner.run(proposal.letters.encode("latin-1"))
     report = read_report(last.output)
     _write(proposal.letters, out)
     after = total_of(report) if report is not None else (0, 0)
+    for note in proposal.notes:
+        print(f"{file}: {note}", file=errors)
     print(_closing(file, proposal, total_of(found.report), after, progress.seconds), file=errors)
     return last.status

@@ -52,7 +52,7 @@ class Forms:
         self._outline = outline
         self._procedure = procedure
         self._scope: Scope = scope_of(outline, procedure)
-        self._places = {name: range_ for name, range_ in self._scope.variables.items()}
+        self._places = dict(self._scope.variables)
         for variable in procedure.variables:
             if variable.mode is Mode.INOUT and variable.name in self._scope.variables:
                 self._places["OLD " + variable.name] = self._scope.variables[variable.name]
@@ -91,8 +91,10 @@ class Forms:
         return sorted(found)
 
     def _whole(self) -> dict[str, Range]:
-        """The places that hold whole numbers."""
-        return {name: range_ for name, range_ in self._places.items() if not (range_.flag or range_.listed)}
+        """The places that hold whole numbers, first those that a step can change, last those of mode IN."""
+        whole = {name: range_ for name, range_ in self._places.items() if not (range_.flag or range_.listed)}
+        order = sorted(whole, key=lambda name: (name in self._fixed) * 2 + name.startswith("OLD "))
+        return {name: whole[name] for name in order}
 
     def _ends(self) -> list[int]:
         """The numbers of the text and the ends of ranges, and one beside each."""
@@ -109,7 +111,7 @@ class Forms:
             yield Form(f"{left} = {right}", f"{left} - {right}", 0, 0)
         for left, right in combinations(whole, 2):
             yield Form(f"{left} <= {right}", f"{left} - {right}", None, 0)
-            yield Form(f"{right} <= {left}", f"{left} - {right}", 0, None)
+            yield Form(f"{left} >= {right}", f"{left} - {right}", 0, None)
         for name in moving:
             yield from self._bounds(name, whole[name])
 
@@ -218,12 +220,14 @@ class Forms:
                     yield Form(f"{left} OR {right}", forks=True)
 
     def _sums(self) -> Iterator[Form]:
-        """A place that is the sum of two others, or is at most or at least that."""
-        whole = [name for name in self._whole()]
+        """Two places whose sum is a third one, or a number of the text."""
+        whole = list(self._whole())
         for first, second in combinations(whole, 2):
             for place in whole:
                 if place not in (first, second):
                     yield Form(f"{place} = {first} + {second}")
+            for number in self._numbers:
+                yield Form(f"{first} + {second} = {_number(number, self._names)}")
 
 
 def _conjuncts(expression: Expression) -> list[Expression]:

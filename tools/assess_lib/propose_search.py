@@ -46,10 +46,6 @@ def total_of(report: Report) -> tuple[int, int]:
     return sum(len(each.threats) for each in found), sum(each.count(Verdict.FALSE) for each in found)
 
 
-class NoReport(Exception):
-    """Malpas gave no report of a text with candidates."""
-
-
 class Search:
     """The search in one procedure of a text. `ran` is called after each run of malpas."""
 
@@ -91,8 +87,8 @@ class Search:
         fallen = set()
         left, past = left_of(procedure)
         for threat in procedure.compliance.threats if procedure.compliance else []:
-            word, _, line = threat.stop.partition(" L")
-            if threat.verdict is Verdict.FALSE or word != "ASSERT" or int(line) not in lines:
+            _, _, line = threat.stop.partition(" L")
+            if threat.verdict is Verdict.FALSE or not line or int(line) not in lines:
                 continue
             head, number = lines[int(line)]
             fallen.add(by_head[head][number])
