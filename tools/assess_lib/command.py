@@ -13,9 +13,10 @@ from assess_lib.check import check
 from assess_lib.folder import assess_folder, run_one
 from assess_lib.page import write_page
 from assess_lib.program import NoProgram, Status, find_program
+from assess_lib.propose import propose
 
 _STOPPED = 130
-_ABOUT = "Runs malpas on texts and says what it found: for an editor, as a page, or for a folder."
+_ABOUT = "Runs malpas on texts and says what it found: for an editor, as a page, for a folder, or as a text with more assertions."
 _STATUSES = (
     "exit status: that of malpas, the greatest of several texts: 0 a report that leaves nothing open, 1 a report that "
     "leaves something open, 2 refused, 3 not read, 4 not written, 5 out of memory, 6 words not understood, 7 malpas not started"
@@ -47,6 +48,10 @@ def _parser() -> argparse.ArgumentParser:
     folders.add_argument("folder", metavar="FOLDER")
     folders.add_argument("--jobs", metavar="N", help="so many at once (as GNU parallel's --jobs); else one per processor")
     folders.add_argument("--sshlogin", metavar="LIST", action="append", default=[], help="machines (as GNU parallel's)")
+    proposes = words.add_parser(
+        "propose", parents=[common], help="write a text with assertions at its loop heads that malpas proves", epilog=_STATUSES
+    )
+    proposes.add_argument("file", metavar="FILE")
     one = words.add_parser("one", parents=[common])
     one.add_argument("file", metavar="FILE")
     return parser
@@ -67,6 +72,8 @@ def _run(words: argparse.Namespace) -> int:
         return check(words.files, program, sys.stdout, sys.stderr)
     if words.word == "page":
         return write_page(words.file, program, sys.stdout, sys.stderr)
+    if words.word == "propose":
+        return propose(words.file, program, sys.stdout, sys.stderr)
     if words.word == "one":
         run_one(words.file, program)
         return int(Status.CLEAN)

@@ -68,14 +68,15 @@ class NoProgram(Exception):
 
 @dataclass(frozen=True)
 class Program:
-    """A malpas that can be run."""
+    """A malpas that can be run, with the words that name the sections to write; without words all are written."""
 
     path: Path
+    words: tuple[str, ...] = ()
 
     def run(self, data: bytes) -> Outcome:
         """Runs it on the bytes of one text. What it says on standard error is left to stand there."""
         try:
-            done = subprocess.run([str(self.path)], input=data, stdout=subprocess.PIPE, check=False)
+            done = subprocess.run([str(self.path), *self.words], input=data, stdout=subprocess.PIPE, check=False)
         except OSError as error:
             raise NoProgram(f"{self.path} does not start: {error.strerror}") from error
         status = done.returncode if done.returncode >= 0 else 128 - done.returncode

@@ -71,11 +71,11 @@ class Commands(unittest.TestCase):
 
     def test_help_and_version(self) -> None:
         """Help and version, with status 0; words that are not understood, with malpas's status for them."""
-        for words in (["--help"], ["check", "--help"], ["page", "--help"], ["folder", "--help"], ["--version"]):
+        for words in (["--help"], ["check", "--help"], ["page", "--help"], ["folder", "--help"], ["propose", "--help"], ["--version"]):
             done = self.run_words(*words)
             self.assertEqual(done.returncode, 0, words)
             self.assertIn("assess", done.stdout)
-        for words in ([], ["chek"], ["check"], ["page"], ["check", "--nosuch", "x.mal"]):
+        for words in ([], ["chek"], ["check"], ["page"], ["propose"], ["check", "--nosuch", "x.mal"]):
             done = self.run_words(*words)
             self.assertEqual((done.returncode, done.stdout), (6, ""), words)
 
