@@ -140,7 +140,6 @@ class Search:
     def grow(self, standing: list[Candidate], stage: Stage) -> list[Candidate]:
         """The standing candidates with those of a stage that stand beside them, batch by batch, until none comes in."""
         every = [Candidate(spot.head, form) for form in stage.forms for spot in self._spots]
-        self.proposed |= set(every)
         size = stage.batch
         while True:
             before = set(standing)
@@ -149,6 +148,7 @@ class Search:
                     return standing
                 held = set(standing)
                 batch = [each for each in every[first : first + size] if each not in held]
+                self.proposed |= set(batch)
                 standing = self.tightest(self.sieve(standing, batch))
                 if self.judge(standing).left == 0:
                     return standing
