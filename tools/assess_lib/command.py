@@ -13,7 +13,7 @@ from assess_lib.check import check
 from assess_lib.folder import assess_folder, run_one
 from assess_lib.page import write_page
 from assess_lib.program import NoProgram, Status, find_program
-from assess_lib.propose import propose
+from assess_lib.propose import LIMIT, propose
 
 _STOPPED = 130
 _ABOUT = "Runs malpas on texts and says what it found: for an editor, as a page, for a folder, or as a text with more assertions."
@@ -52,6 +52,9 @@ def _parser() -> argparse.ArgumentParser:
         "propose", parents=[common], help="write a text with assertions at its loop heads that malpas proves", epilog=_STATUSES
     )
     proposes.add_argument("file", metavar="FILE")
+    proposes.add_argument(
+        "--seconds", metavar="N", type=float, default=LIMIT, help="try no more after N seconds in a procedure; else %(default)g"
+    )
     one = words.add_parser("one", parents=[common])
     one.add_argument("file", metavar="FILE")
     return parser
@@ -73,7 +76,7 @@ def _run(words: argparse.Namespace) -> int:
     if words.word == "page":
         return write_page(words.file, program, sys.stdout, sys.stderr)
     if words.word == "propose":
-        return propose(words.file, program, sys.stdout, sys.stderr)
+        return propose(words.file, program, sys.stdout, sys.stderr, words.seconds)
     if words.word == "one":
         run_one(words.file, program)
         return int(Status.CLEAN)

@@ -17,14 +17,16 @@ from assess_lib.report_reader import read_report
 from assess_lib.source import SourceText
 
 SECTIONS = ("--control", "--compliance")
+LIMIT = 20.0
 _QUIET = 2.0
 _WIDTH = 24
 
 
 class Progress:
-    """A bar on a terminal, from the third second on."""
+    """The time, with the seconds that further tries in one procedure may take, and a bar on a terminal from the third second on."""
 
-    def __init__(self, stream: TextIO) -> None:
+    def __init__(self, stream: TextIO, limit: float) -> None:
+        self.limit = limit
         self._stream = stream
         self._shown = stream.isatty()
         self._begun = time.monotonic()
@@ -79,7 +81,9 @@ def _spots(found: Analysis, number: int) -> list[Spot]:
 def _in_procedure(found: Analysis, number: int, runner: Runner, progress: Progress) -> tuple[Search, list[Candidate]]:
     """The search in one procedure, and the candidates that it keeps."""
     each = found.procedures[number]
-    search = Search(runner, found.source.letters, _spots(found, number), number, progress.ran)
+    last = progress.seconds + progress.limit
+    spots = _spots(found, number)
+    search = Search(runner, found.source.letters, spots, number, progress.ran, lambda: progress.seconds > last)
     forms = Forms(each.listing.outline, each.listing.procedure)
     standing: list[Candidate] = []
     stages = forms.stages()
@@ -159,8 +163,10 @@ def _closing(file: str, proposal: Proposal, before: tuple[int, int], after: tupl
     )
 
 
-def propose(file: str, program: Program, out: TextIO, errors: TextIO) -> int:
-    """Writes the text of a file with proposed assertions; answers malpas's status for what it wrote."""
+def propose(file: str, program: Program, out: TextIO, errors: TextIO, limit: float = LIMIT) -> int:
+    """Writes the text of a file with proposed assertions; answers malpas's status for what it wrote.
+
+    After `limit` seconds in a procedure no further candidates are tried there."""
     try:
         source = read_source(file)
     except OSError as error:
@@ -174,7 +180,7 @@ def propose(file: str, program: Program, out: TextIO, errors: TextIO) -> int:
     if found.report is None or found.report.status is None:
         print(f"{file}: {meaning_of(outcome.status)} (status {outcome.status})", file=errors)
         return outcome.status or int(Status.NO_MEMORY)
-    progress = Progress(errors)
+    progress = Progress(errors, limit)
     try:
         proposal = propose_in(found, runner, progress)
     finally:

@@ -63,7 +63,7 @@ class Forms:
     def stages(self) -> list[Stage]:
         """The stages in the order in which they are tried."""
         return [
-            Stage("values and order", _each_once(self._first()), 120),
+            Stage("values and order", _each_once(self._first()), 60),
             Stage("differences", _each_once(self._differences()), 90),
             Stage("conditions", _each_once(self._conditions()), 4),
             Stage("alternatives", _each_once(self._alternatives()), 3),

@@ -25,11 +25,19 @@ class Candidate:
 
 @dataclass(frozen=True)
 class Judged:
-    """What malpas says of a text with candidates: those that are not proved, and the threats left and regions past."""
+    """What malpas says of a text with candidates: those that are not proved, the other threats left, the regions past.
+
+    `stops` counts the places at which something is left: an alternative parts one path into two with the same stop."""
 
     fallen: frozenset[Candidate]
     left: int
     past: int
+    stops: int = 0
+
+    @property
+    def open(self) -> tuple[int, int, int]:
+        """How much is left open, for comparison."""
+        return self.past, self.stops, self.left
 
 
 def left_of(report: ProcedureReport) -> tuple[int, int]:
@@ -47,14 +55,24 @@ def total_of(report: Report) -> tuple[int, int]:
 
 
 class Search:
-    """The search in one procedure of a text. `ran` is called after each run of malpas."""
+    """The search in one procedure of a text. `ran` is called after each run of malpas, and `over` tells when no further
+    candidates are to be tried."""
 
-    def __init__(self, runner: Runner, letters: str, spots: list[Spot], number: int, ran: Callable[[], None]) -> None:
+    def __init__(
+        self,
+        runner: Runner,
+        letters: str,
+        spots: list[Spot],
+        number: int,
+        ran: Callable[[], None] = lambda: None,
+        over: Callable[[], bool] = lambda: False,
+    ) -> None:
         self._runner = runner
         self._letters = letters
         self._spots = spots
         self._number = number
         self._ran = ran
+        self._over = over
         self._known: dict[tuple[Candidate, ...], Judged] = {}
         self.proposed: set[Candidate] = set()
         self.goal = self.judge([])
@@ -86,26 +104,34 @@ class Search:
         by_head = {spot.head: [each for each in candidates if each.head == spot.head] for spot in self._spots}
         fallen = set()
         left, past = left_of(procedure)
+        stops = set()
         for threat in procedure.compliance.threats if procedure.compliance else []:
             _, _, line = threat.stop.partition(" L")
-            if threat.verdict is Verdict.FALSE or not line or int(line) not in lines:
+            if threat.verdict is Verdict.FALSE:
+                continue
+            if not line or int(line) not in lines:
+                stops.add((threat.region, threat.stop))
                 continue
             head, number = lines[int(line)]
             fallen.add(by_head[head][number])
             left -= 1
-        return Judged(frozenset(fallen), left, past)
+        return Judged(frozenset(fallen), left, past, len(stops))
 
-    def sieve(self, standing: list[Candidate], added: list[Candidate]) -> list[Candidate]:
-        """The greatest part of both lists that proves itself; where a region grows past its size, half is tried first."""
+    def sieve(self, standing: list[Candidate], added: list[Candidate], limited: bool = True) -> list[Candidate]:
+        """The greatest part of both lists that proves itself; where a region grows past its size, half is tried first.
+
+        `standing` proves itself, and is the answer where the time is over and counts, which `limited` tells."""
         held = [*standing, *added]
         while held:
+            if limited and self._over():
+                return standing
             judged = self.judge(held)
             if judged.past > self.goal.past:
                 fresh = [each for each in held if each in set(added)]
                 if len(fresh) < 2:
                     return standing
                 half = len(fresh) // 2
-                return self.sieve(self.sieve(standing, fresh[:half]), fresh[half:])
+                return self.sieve(self.sieve(standing, fresh[:half], limited), fresh[half:], limited)
             if not judged.fallen:
                 break
             held = [each for each in held if each not in judged.fallen]
@@ -114,13 +140,15 @@ class Search:
     def grow(self, standing: list[Candidate], stage: Stage) -> list[Candidate]:
         """The standing candidates with those of a stage that stand beside them, batch by batch, until none comes in."""
         every = [Candidate(spot.head, form) for form in stage.forms for spot in self._spots]
-        self.proposed |= set(every)
         size = stage.batch
         while True:
             before = set(standing)
             for first in range(0, len(every), size):
+                if self._over():
+                    return standing
                 held = set(standing)
                 batch = [each for each in every[first : first + size] if each not in held]
+                self.proposed |= set(batch)
                 standing = self.tightest(self.sieve(standing, batch))
                 if self.judge(standing).left == 0:
                     return standing
@@ -155,9 +183,9 @@ class Search:
             first = len(standing)
             while first > 0:
                 first = max(0, min(first, len(standing)) - size)
-                fewer = self.sieve([], standing[:first] + standing[first + size :])
+                fewer = self.sieve([], standing[:first] + standing[first + size :], False)
                 judged = self.judge(fewer)
-                if len(fewer) < len(standing) and (judged.past, judged.left) <= (goal.past, goal.left):
+                if len(fewer) < len(standing) and judged.open <= goal.open:
                     standing = fewer
             size = size // 2 if size > 1 else 0
         return standing

@@ -108,7 +108,7 @@ class Templates(unittest.TestCase):
         outline = outline_of(statements_of(COUNT))
         stages = {stage.name: [form.text for form in stage.forms] for stage in Forms(outline, outline.procedures[0]).stages()}
         wanted = {
-            "values and order": ["OLD i <= n", "b", "NOT b", "m = loud", "i = n", "i <= OLD i", "i >= OLD i", "i >= 1", "i = top"],
+            "values and order": ["OLD i <= n", "b", "NOT b", "m = loud", "i = n", "i <= OLD i", "i >= 1", "i = top"],
             "differences": ["i = n + 1", "n <= i + top", "i <= n + 1", "m /= calm"],
             "conditions": ["i = n", "i /= n", "i > n"],
             "alternatives": ["b OR m = calm", "m = loud OR i = n"],
@@ -158,7 +158,7 @@ class Searches(unittest.TestCase):
 
     def search(self, rules: Rules, batch: int = 99) -> tuple[list[str], list[str]]:
         """What stands of a to f, and what is left of it in the end."""
-        search = Search(rules, COUNT, [spot(COUNT, 1)], 0, lambda: None)
+        search = Search(rules, COUNT, [spot(COUNT, 1)], 0)
         standing = search.grow([], Stage("letters", [Form(letter) for letter in "abcdef"], batch))
         return [each.form.text for each in standing], [each.form.text for each in search.thin(standing)]
 
@@ -179,9 +179,17 @@ class Searches(unittest.TestCase):
         batches = Rules({"a": ["f"], "c": ["a"], "f": []}, ["c"])
         self.assertEqual(sorted(self.search(batches, batch=2)[0]), ["a", "c", "f"])
 
+    def test_time(self) -> None:
+        """Where the time is over what stood before stays, and nothing is added; leaving out goes on."""
+        rules = Rules({"a": [], "b": []}, ["b"])
+        search = Search(rules, COUNT, [spot(COUNT, 1)], 0, over=lambda: True)
+        both = [Candidate(1, Form("a")), Candidate(1, Form("b"))]
+        self.assertEqual(search.grow(both[:1], Stage("letters", [Form("b")], 9)), both[:1])
+        self.assertEqual(search.thin(both), both[1:])
+
     def test_bounds(self) -> None:
         """Of the bounds of one term the tightest stand, and an equality says both."""
-        search = Search(Rules({}, []), COUNT, [spot(COUNT, 1)], 0, lambda: None)
+        search = Search(Rules({}, []), COUNT, [spot(COUNT, 1)], 0)
         low, lower = Form("i >= 3", "i", 3, None), Form("i >= 2", "i", 2, None)
         high, same = Form("i <= 3", "i", None, 3), Form("i = 3", "i", 3, 3)
         for forms, kept in (([lower, low], [low]), ([low, high, same], [same]), ([low, high], [low, high])):
@@ -230,23 +238,22 @@ class WithTheProgram(unittest.TestCase):
                 file.write_bytes(text.encode("ascii"))
                 status, _, errors = proposed(file, program)
                 self.assertEqual(status, 0, errors)
-                self.assertRegex(errors, r"\d+ assertions proposed, \d+ kept; threats FALSE \d+ of \d+ before, (\d+) of \1 after; ")
+                told = r"\d+ assertions proposed, \d+ kept; threats FALSE \d+ of \d+ before, (\d+) of \1 after; "
+                self.assertRegex(errors, told)
 
     def test_nothing_helps(self) -> None:
         """Where nothing helps, or nothing is open, the text is written as it was, and that is said."""
         program = real_program(self)
-        wrong = COUNT.replace("POST i = n", "POST i = 3")
+        wrong = COUNT.replace("POST i = n", "POST m = loud").replace("i := i + 1", "i := n").replace("LOCAL b : BOOL;\n", "")
         with tempfile.TemporaryDirectory() as folder:
             file = Path(folder) / "t.mal"
-            for letters, status, said in ((wrong, 1, ""), (COUNT.replace("POST i = n", "POST m = loud"), 1, "nothing helps")):
-                file.write_text(letters, encoding="ascii")
-                found, text, errors = proposed(file, program)
-                self.assertEqual(found, status)
-                self.assertIn(said, errors)
-                if said:
-                    self.assertEqual(text, letters)
+            file.write_text(wrong, encoding="ascii")
+            status, text, errors = proposed(file, program)
+        self.assertEqual((status, text), (1, wrong))
+        self.assertIn("nothing helps, so the text stands as it was; ", errors)
         valve = HERE / "texts" / "valve.mal"
         self.assertEqual(proposed(valve, program)[:2], (0, valve.read_text(encoding="ascii")))
+        self.assertIn("nothing is left to help", proposed(valve, program)[2])
 
     def test_command(self) -> None:
         """The word as a user gives it; a refused text and one that is not there give no text."""
