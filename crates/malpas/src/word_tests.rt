@@ -20,6 +20,30 @@ const RISING: &str =
 const RISING_USE: &str =
     "MALPAS PROFILE 1\nTITLE t\nPROCEDURE p LINES 3\nUSE\nVAR x RF=Y OW=N LW=N NR=N NW=N EU=N\nSTATUS 1\n";
 
+/// A loop whose number of turns decides the final value of v.
+const COUNTING: &str =
+    "TITLE t;\nPROC p;\nIN c : 0 .. 9;\nOUT v : 0 .. 99;\nLOCAL i : 0 .. 9;\nPRE TRUE;\nPOST TRUE;\nv := 0;\ni := 0;\nLOOP;\nEXIT WHEN i >= c;\nv := v + 2;\ni := i + 1;\nENDLOOP;\nENDPROC;\nFINISH;\n";
+
+/// Its slices alone, with the status of the whole report.
+const COUNTING_SLICE: &str =
+    "MALPAS PROFILE 1\nTITLE t\nPROCEDURE p LINES 9\nSLICE\nVAR c KEEP L8 FIXED L4=T\nVAR v KEEP L1 L2 L4 L5 L6 L8 FIXED -\nVAR i KEEP L2 L4 L6 L8 FIXED -\nSTATUS 1\n";
+
+/// A loop that never ends.
+const ENDLESS: &str =
+    "TITLE t;\nPROC p;\nOUT y : 0 .. 1;\nPRE TRUE;\nPOST TRUE;\nLOOP;\nSKIP;\nENDLOOP;\nENDPROC;\nFINISH;\n";
+
+/// Its flow and its slice.
+const ENDLESS_SLICE: &str =
+    "MALPAS PROFILE 1\nTITLE t\nPROCEDURE p LINES 5\nFLOW\nVAR y FROM - TESTS -\nSLICE\nVAR y KEEP - FIXED -\nSTATUS 0\n";
+
+/// A loop that is entered in its middle.
+const LADDER: &str =
+    "TITLE t;\nPROC p;\nINOUT x : 0 .. 9;\nPRE TRUE;\nPOST TRUE;\nIF x = 0;\nGOTO mid;\nENDIF;\nLOOP;\nSKIP;\nLABEL mid;\nEXIT WHEN x = 1;\nENDLOOP;\nENDPROC;\nFINISH;\n";
+
+/// Its slices, which are not given.
+const LADDER_SLICE: &str =
+    "MALPAS PROFILE 1\nTITLE t\nPROCEDURE p LINES 10\nSLICE\nNOT REPORTED IRREDUCIBLE\nSTATUS 1\n";
+
 /// The summary of the made text of 3.
 const OF_THREE: &str =
     "GENERATED 3\nLINES 14\nREGIONS 4\nROWS 7\nTHREATS 4\nFALSE 4\nSHOWN 0\nOPEN 0\nPAST 0\n";
@@ -49,6 +73,20 @@ fn expect(
 fn writes_the_sections_that_are_selected(rt: HostRuntime) -> Result<(), Fail> {
     expect(&rt, rt.alloc(), &["--flow", "--flow"], COPY, 0, COPY_FLOW)?;
     expect(&rt, rt.alloc(), &["--use"], RISING, 1, RISING_USE)
+}
+
+#[test]
+fn writes_slices_where_they_are_asked_for(rt: HostRuntime) -> Result<(), Fail> {
+    expect(&rt, rt.alloc(), &["--slice"], COUNTING, 1, COUNTING_SLICE)?;
+    expect(
+        &rt,
+        rt.alloc(),
+        &["--slice", "--flow"],
+        ENDLESS,
+        0,
+        ENDLESS_SLICE,
+    )?;
+    expect(&rt, rt.alloc(), &["--slice"], LADDER, 1, LADDER_SLICE)
 }
 
 #[test]

@@ -16,6 +16,7 @@ const NOTHING: Selection = Selection {
     control: false,
     usage: false,
     flow: false,
+    slice: false,
     paths: false,
     semantic: false,
     compliance: false,
@@ -79,6 +80,7 @@ fn untold(alloc: Global) -> Analyses {
         },
         usage: List::new(alloc),
         flows: List::new(alloc),
+        slices: List::new(alloc),
         tables: List::new(alloc),
         threats: List::new(alloc),
     }
@@ -166,6 +168,7 @@ fn writes_the_part_of_an_irreducible_procedure(rt: HostRuntime) -> Result<(), Fa
         control: true,
         usage: true,
         flow: false,
+        slice: true,
         paths: true,
         semantic: true,
         compliance: true,
@@ -174,7 +177,7 @@ fn writes_the_part_of_an_irreducible_procedure(rt: HostRuntime) -> Result<(), Fa
     put_part(&part, selection, &mut sink)?;
     assert_eq!(rt;
         sink.held(),
-        b"PROCEDURE Hold LINES 6\nCONTROL\nUNREACHABLE -\nSTUCK L4 L5\nSHAPE TWO ENTRIES\nCYCLE L2 L3\nFIRST L0 L1 L2\nSECOND L0 L1 L3\nUSE\nNOT REPORTED IRREDUCIBLE\nPATHS\nNOT REPORTED IRREDUCIBLE\nSEMANTIC\nNOT REPORTED IRREDUCIBLE\nCOMPLIANCE\nNOT REPORTED IRREDUCIBLE\n".as_slice()
+        b"PROCEDURE Hold LINES 6\nCONTROL\nUNREACHABLE -\nSTUCK L4 L5\nSHAPE TWO ENTRIES\nCYCLE L2 L3\nFIRST L0 L1 L2\nSECOND L0 L1 L3\nUSE\nNOT REPORTED IRREDUCIBLE\nSLICE\nNOT REPORTED IRREDUCIBLE\nPATHS\nNOT REPORTED IRREDUCIBLE\nSEMANTIC\nNOT REPORTED IRREDUCIBLE\nCOMPLIANCE\nNOT REPORTED IRREDUCIBLE\n".as_slice()
     );
     Ok(())
 }

@@ -91,6 +91,7 @@ fn part(alloc: Global, body: TableOr, threats: List<Threat>) -> Result<ProcRepor
             },
             usage: List::new(alloc),
             flows: List::new(alloc),
+            slices: List::new(alloc),
             tables: List::from_vec(vec![in alloc; RegionTable { pc: 0, body }]?),
             threats,
         }),

@@ -13,6 +13,7 @@ const TABLES: Selection = Selection {
     control: false,
     usage: false,
     flow: false,
+    slice: false,
     paths: false,
     semantic: true,
     compliance: true,
