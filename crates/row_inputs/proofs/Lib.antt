@@ -1,0 +1,4 @@
+pub mod Stepped
+pub mod Taking
+pub mod Few
+pub mod Rows
