@@ -2,3 +2,4 @@ pub mod Stepped
 pub mod Taking
 pub mod Few
 pub mod Rows
+pub mod Served

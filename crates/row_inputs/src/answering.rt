@@ -4,8 +4,11 @@ ghost use Rattle.il_core.specs.Checked.{procedure_of};
 ghost use Rattle.region_paths.specs.Laws.{BeginsRegion};
 ghost use Rattle.semantic_tables.specs.Row.{row_of};
 ghost use Rattle.semantic_tables.specs.Fit.{HasSoundLiterals};
+ghost use Rattle.semantic_tables.specs.Table.{IsOpenPath, AreRowsOf};
 ghost use Rattle.row_inputs.specs.Input.{TestInputIs, TestInputsAre};
+ghost use Rattle.row_inputs.specs.Laws.{ServeRows};
 
+use crate::laws::table_inputs_serve;
 use crate::stepping::is_taken;
 use control_flow::{Control, LoopInfo};
 use il_core::{CheckedProc, List, NoMemory};
@@ -41,8 +44,9 @@ fn input_of(
 /// where the lines stepped from it, up to a halt or to the first loop head, take the row's decisions and stop as it does.
 ///
 /// `control` is that of a reducible procedure, and `pc` is 0 or one of its loop heads; the rows are those that `table`
-/// gives for this region. `None` comes exactly where the row is plainly refuted or its least input does not take it. For
-/// what is promised of the rows of a table see the crate's laws. `NoMemory` comes only where memory runs out.
+/// gives for this region. `None` comes exactly where the row is plainly refuted or its least input does not take it.
+/// Of the rows of a table, stepping from each input answered comes to the row's stop and values, and each row whose
+/// literals are easy and at most eight of them `/=` has an input. `NoMemory` comes only where memory runs out.
 ///
 /// Each row costs one search for its least input and at most one step more than the procedure has lines, each of which
 /// takes one look at each loop.
@@ -56,7 +60,9 @@ pub fn inputs(
     requires begins { BeginsRegion (procedure_of proc.now) control.now.loops pc }
     requires fits { All (HasSoundLiterals (length proc.now.places)) rows.now }
     ensures exact { IfOk result (TestInputsAre (procedure_of proc.now) control.now.loops pc (map row_of rows.now)) }
+    ensures serve { IfOk result (λ os. AreRowsOf (IsOpenPath (procedure_of proc.now) control.now.loops pc) rows.now → ServeRows (procedure_of proc.now) control.now.loops pc (map row_of rows.now) os) }
 {
+    table_inputs_serve();
     let loops = control.loops.as_slice();
     let mut answers = List::new(alloc);
     for row in rows {

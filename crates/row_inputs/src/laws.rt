@@ -1,5 +1,5 @@
 //! Laws of test inputs, as contracts of functions that do nothing.
-ghost use Rattle.row_inputs.specs.Laws.{RowsAreTakenWhereMet, TestInputsLeadToStops, EasyRowsHaveInputs};
+ghost use Rattle.row_inputs.specs.Laws.{RowsAreTakenWhereMet, TestInputsLeadToStops, EasyRowsHaveInputs, TableInputsServe};
 
 use path_inputs::least_meets_core;
 use region_paths::{decisions_tell_paths, inputs_take_one_path};
@@ -34,4 +34,13 @@ pub fn easy_rows_have_inputs()
 {
     ways_are_steps();
     least_meets_core();
+}
+
+/// The test inputs of the rows of a table: each leads to its row's stop and values, and each row whose literals are easy
+/// and at most eight of them `/=` has one.
+pub fn table_inputs_serve()
+    ensures { TableInputsServe }
+{
+    test_inputs_lead_to_stops();
+    easy_rows_have_inputs();
 }

@@ -9,4 +9,6 @@ mod laws;
 mod stepping;
 
 pub use answering::inputs;
-pub use laws::{easy_rows_have_inputs, rows_are_taken_where_met, test_inputs_lead_to_stops};
+pub use laws::{
+    easy_rows_have_inputs, rows_are_taken_where_met, table_inputs_serve, test_inputs_lead_to_stops,
+};
