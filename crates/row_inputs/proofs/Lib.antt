@@ -1,0 +1,5 @@
+pub mod Stepped
+pub mod Taking
+pub mod Few
+pub mod Rows
+pub mod Served
