@@ -1,2 +1,3 @@
 mod Quantities
 mod Accepted
+mod Worked
