@@ -1,2 +1,4 @@
 mod Quantities
 mod Accepted
+mod Worked
+mod Single

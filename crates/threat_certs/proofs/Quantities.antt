@@ -34,7 +34,7 @@ one c = grind (arith, ints)
 minus-one : (c : ℤ) → negsuc 0 *ℤ c ≡ neg_ℤ c
 minus-one c = grind (arith, ints)
 
-once : (n : Form) → scale_parts (pos 1) n ≡ n
+pub once : (n : Form) → scale_parts (pos 1) n ≡ n
 once (constant d) = ap constant (one d)
 once (part d a n) = ap (λ c. part c a (scale_parts (pos 1) n)) (one d) ∙ ap (part d a) (once n)
 

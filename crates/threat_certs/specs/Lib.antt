@@ -2,3 +2,4 @@ pub mod Certificate
 pub mod Quantity
 pub mod Acceptance
 pub mod Laws
+pub mod WorkedCertificates

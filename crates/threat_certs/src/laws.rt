@@ -1,5 +1,6 @@
 //! Laws of accepted certificates, as contracts of functions that do nothing.
-ghost use Rattle.threat_certs.specs.Laws.{AcceptedThreatsHaveNoInput, AcceptedThreatsAreNotTaken};
+ghost use Rattle.threat_certs.specs.Laws.{AcceptedThreatsHaveNoInput, AcceptedThreatsAreNotTaken, OneQuantity};
+ghost use Rattle.threat_certs.specs.WorkedCertificates.{WorkedCertificates};
 
 use compliance::threats_are_taken_where_met;
 
@@ -14,3 +15,14 @@ pub fn accepted_threats_are_not_taken()
 {
     threats_are_taken_where_met();
 }
+
+/// Some certificates that are worked out by hand are accepted, and some are not: among them a sum that comes to 0, a
+/// literal on the side that it does not bound, and a split of a literal that is no `/=`.
+pub fn worked_certificates()
+    ensures { WorkedCertificates }
+{}
+
+/// An item has one quantity at most, so what a certificate sums up is determined by it.
+pub fn one_quantity()
+    ensures { OneQuantity }
+{}

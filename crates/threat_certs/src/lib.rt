@@ -10,4 +10,7 @@ mod certificate;
 mod laws;
 
 pub use certificate::{Cert, Item, Share};
-pub use laws::{accepted_threats_are_not_taken, accepted_threats_have_no_input};
+pub use laws::{
+    accepted_threats_are_not_taken, accepted_threats_have_no_input, one_quantity,
+    worked_certificates,
+};
