@@ -95,7 +95,7 @@ fn add_region(
 /// `graph`, `control` and `derivation` are those of `proc`, whose shape is reducible. `NoMemory` comes only where memory
 /// runs out. Each region's paths that stop badly are listed by `hazards`, and given up before those of the next; a threat
 /// costs one call of `least_input` and at most twice as many steps as there are lines, and any other path costs nothing
-/// beyond its decisions. The pieces of a run from one head to the next are those of the method of inductive assertions
+/// beyond its share of the walk. The pieces of a run from one head to the next are those of the method of inductive assertions
 /// (R. W. Floyd, Assigning meanings to programs, 1967).
 pub fn threats(
     alloc: Global,

@@ -170,7 +170,7 @@ pub fn long_rows(
 /// `least_input` asks for.
 ///
 /// The conditions, the answers and the stack are those of `long_rows`. It takes the same walk, but a path that does not
-/// stop badly costs nothing beyond its decisions, and no value is brought to its normal term.
+/// stop badly costs nothing beyond its share of the walk, and no value is brought to its normal term.
 pub fn hazards(
     alloc: Global,
     proc: &CheckedProc,
