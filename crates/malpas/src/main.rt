@@ -5,6 +5,8 @@
 #![tactic(auto)]
 
 mod answer;
+#[cfg(test)]
+mod fault_tests;
 mod made;
 mod reporting;
 mod source_text;
