@@ -19,9 +19,12 @@ choose_program() {
   fi
 }
 
-# Writes what the program writes of a text, and ends with its status. What it says on standard error is in $made/said.
+# Writes what the program writes of a text, with the words that stand in a file beside it, one a line, where there is one, and ends with
+# its status. What it says on standard error is in $made/said.
 write_report() {
-  "$chosen" < "$here/$1.mal" 2> "$made/said"
+  local words=()
+  [ ! -e "$here/$1.words" ] || mapfile -t words < "$here/$1.words"
+  "$chosen" "${words[@]}" < "$here/$1.mal" 2> "$made/said"
 }
 
 # The status that a report tells: that of its last line, or 2 for the line of a refusal.
