@@ -13,4 +13,5 @@ pub mod Checked
 pub mod Places
 pub mod Text
 pub mod LineGraph
+pub mod Certificate
 pub mod formers

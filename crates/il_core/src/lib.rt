@@ -1,7 +1,8 @@
-//! The data that all layers of the suite speak of: names, lists, tokens, statements, checked procedures and
-//! refusals, and the definitions of evaluation, of a step of the line machine and of its runs.
+//! The data that all layers of the suite speak of: names, lists, tokens, statements, checked procedures,
+//! certificates and refusals, and the definitions of evaluation, of a step of the line machine and of its runs.
 #![tactic(auto)]
 
+mod certificate;
 mod checked;
 mod line;
 mod list;
@@ -12,6 +13,7 @@ mod refusal;
 mod statement;
 mod token;
 
+pub use certificate::{Cert, Item, NamedCert, Share};
 pub use checked::{CheckedProc, CheckedText};
 pub use line::{Expr, Halt, Line, Next, Place, Stop};
 pub use list::List;

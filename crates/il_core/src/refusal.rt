@@ -42,6 +42,8 @@ pub enum Code {
     Wide,
     /// Too many of something.
     TooMany(Many),
+    /// A line that cannot stand where it does in a certificate, or a line that is missing.
+    BadCertificate,
 }
 
 /// The refusal of a text: why, at which byte counted from 0, and for which name where one is told.

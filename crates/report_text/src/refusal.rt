@@ -27,6 +27,7 @@ fn number_of(code: &Code) -> &[u8]
         Code::EmptyRange => b"12",
         Code::Wide => b"13",
         Code::TooMany(_) => b"14",
+        Code::BadCertificate => b"17",
     }
 }
 
@@ -58,6 +59,7 @@ fn words_of(code: &Code) -> &[u8]
         Code::EmptyRange => b"range is empty",
         Code::Wide => b"expression too wide",
         Code::TooMany(many) => words_of_many(many),
+        Code::BadCertificate => b"certificate has no form",
     }
 }
 
