@@ -24,7 +24,7 @@ use Rattle.info_flow.specs.Growth.{is_relevant}
 use Rattle.info_flow.proofs.Listing.{lists_same}
 use Rattle.flow_slice.specs.declared.sliced.Fixed.{Fixed}
 use Rattle.flow_slice.specs.Nearer.{IsNearer}
-use Rattle.flow_slice.specs.Slice.{IsSlice, IsSliced, IsFixedTo, sliced}
+use Rattle.flow_slice.specs.Slice.{IsSlice, IsOutline, IsSliced, IsFixedTo, sliced}
 use Rattle.flow_slice.specs.Distance.{HasDistance, AreDistances, distance_at, is_shorter, side_of}
 use Rattle.flow_slice.specs.Sides.{sliced_from, HaveHeadsBelow, AreFixed, side_at}
 
@@ -120,18 +120,24 @@ test_told p k = (there, back)
     back : (i : Instruction) × (slice_get p.lines k ≡ Some i) × (kind_of i ≡ Test) → IsTest (graph_of p).nodes k
     back t = (node_of (returned_from 0 p.places) t.0, slice_get-map (node_of (returned_from 0 p.places)) p.lines k ∙ ap (option_map (node_of (returned_from 0 p.places))) t.1, t.2)
 
+-- what a slice of a procedure keeps and fixes
+pub outline_of : (p : Procedure) (marks reached : List Bool) (ds : List (Option ℕ)) (count : ℕ) (keep : List ℕ) (fixed : List Fixed)
+    → AreDistances (Joins (graph_of p).arcs) (IsMarked marks) count ds → ((k : ℕ) → IsMarked reached k ↔ IsReached (graph_of p).arcs k)
+    → Lists (λ k. IsMarked reached k × IsMarked marks k) keep → AreFixed p.lines reached marks ds fixed
+    → IsOutline (graph_of p) (is_relevant marks) (record { keep = keep; fixed = fixed })
+outline_of p marks reached ds count keep fixed d r k f = record {
+  keep = lists_same _ _ keep (λ x. (λ h. ((r x).0 h.0, h.1), λ h. ((r x).1 h.0, h.1))) k;
+  fixed = lists_same _ _ (map (λ y. y.line) fixed) (λ x. (
+    λ h. ((r x).0 h.0, (test_told p x).1 h.2, h.1),
+    λ h. ((r x).1 h.0, h.2, (test_told p x).0 h.1),
+  )) f.tests;
+  sides = λ y i. subst (IsFixedTo (graph_of p) (is_relevant marks) y.line) (sym (f.sides y i)) (side_told p marks ds count d y.line);
+}
+
 -- the answer for a procedure
 pub sliced_of : (p q : NamedProcedure) (marks reached : List Bool) (ds : List (Option ℕ)) (count : ℕ) (keep : List ℕ) (fixed : List Fixed) → q.name ≡ p.name
     → IsSlice (procedure_of p) (is_relevant marks) (procedure_of q) → AreDistances (Joins (graph_of (procedure_of p)).arcs) (IsMarked marks) count ds
     → ((k : ℕ) → IsMarked reached k ↔ IsReached (graph_of (procedure_of p)).arcs k) → Lists (λ k. IsMarked reached k × IsMarked marks k) keep
     → AreFixed (procedure_of p).lines reached marks ds fixed → IsSliced p (is_relevant marks) (record { proc = q; keep = keep; fixed = fixed })
-sliced_of p q marks reached ds count keep fixed name made d r k f = record {
-  name = name;
-  slice = made;
-  keep = lists_same _ _ keep (λ x. (λ h. ((r x).0 h.0, h.1), λ h. ((r x).1 h.0, h.1))) k;
-  fixed = lists_same _ _ (map (λ y. y.line) fixed) (λ x. (
-    λ h. ((r x).0 h.0, (test_told (procedure_of p) x).1 h.2, h.1),
-    λ h. ((r x).1 h.0, h.2, (test_told (procedure_of p) x).0 h.1),
-  )) f.tests;
-  sides = λ y i. subst (IsFixedTo (graph_of (procedure_of p)) (is_relevant marks) y.line) (sym (f.sides y i)) (side_told (procedure_of p) marks ds count d y.line);
-}
+sliced_of p q marks reached ds count keep fixed name made d r k f =
+    record { name = name; slice = made; outline = outline_of (procedure_of p) marks reached ds count keep fixed d r k f }

@@ -9,6 +9,7 @@ use Rattle.flow_graph.specs.Graph.{Joins, graph_of, heads_from}
 use Rattle.flow_graph.specs.Reached.{IsReached, Lists}
 use Rattle.info_flow.specs.Relevance.{IsTest}
 use Rattle.flow_slice.specs.declared.sliced.Fixed.{Fixed}
+use Rattle.flow_slice.specs.declared.sliced.Outline.{Outline}
 use Rattle.flow_slice.specs.declared.sliced.SlicedProc.{SlicedProc}
 use Rattle.flow_slice.specs.Nearer.{IsNearer}
 
@@ -48,10 +49,14 @@ pub record IsSlice (p : Procedure) (relevant : ℕ → Bool) (slice : Procedure)
   pub size : length slice.lines ≡ length p.lines
   pub lines : (k : ℕ) (i : Instruction) → slice_get p.lines k ≡ Some i → slice_get slice.lines k ≡ Some (sliced (relevant k) (taken k) i)
 
--- what the call answers for a procedure: its slice under the same name, and, ascending, the reachable relevant lines and the reachable tests that are fixed
+-- what a slice keeps and fixes: ascending, the reachable relevant lines, and the reachable tests that are fixed
+pub record IsOutline (g : FlowGraph) (relevant : ℕ → Bool) (outline : Outline) : Type 0 where
+  pub keep : Lists (λ k. IsReached g.arcs k × (relevant k ≡ true)) outline.keep
+  pub fixed : Lists (λ k. IsReached g.arcs k × IsTest g.nodes k × (relevant k ≡ false)) (map (λ f. f.line) outline.fixed)
+  pub sides : (f : Fixed) → IsIn outline.fixed f → IsFixedTo g relevant f.line f.taken
+
+-- what the call answers for a procedure: its slice under the same name, and what it keeps and fixes
 pub record IsSliced (p : NamedProcedure) (relevant : ℕ → Bool) (answer : SlicedProc) : Type 0 where
   pub name : answer.proc.name ≡ p.name
   pub slice : IsSlice (procedure_of p) relevant (procedure_of answer.proc)
-  pub keep : Lists (λ k. IsReached (graph_of (procedure_of p)).arcs k × (relevant k ≡ true)) answer.keep
-  pub fixed : Lists (λ k. IsReached (graph_of (procedure_of p)).arcs k × IsTest (graph_of (procedure_of p)).nodes k × (relevant k ≡ false)) (map (λ f. f.line) answer.fixed)
-  pub sides : (f : Fixed) → IsIn answer.fixed f → IsFixedTo (graph_of (procedure_of p)) relevant f.line f.taken
+  pub outline : IsOutline (graph_of (procedure_of p)) relevant (record { keep = answer.keep; fixed = answer.fixed })

@@ -4,10 +4,11 @@ ghost use Rattle.il_core.specs.LineGraph.{IsIn};
 ghost use Rattle.flow_graph.specs.Graph.{Joins, IsWellFormed};
 ghost use Rattle.flow_graph.specs.Reached.{Lists};
 ghost use Rattle.flow_graph.specs.Search.{IsMarked, AreBelow, StayBelow, row_of};
+ghost use Rattle.flow_slice.specs.Searched.{AreTails};
 ghost use Rattle.flow_slice.specs.Distance.{AreDistances, distance_at};
 ghost use Rattle.flow_slice.specs.Layer.{Spread, IsBehind};
 
-use flow_graph::{FlowGraph, predecessors};
+use flow_graph::FlowGraph;
 use il_core::{List, NoMemory};
 use std::alloc::Global;
 
@@ -87,18 +88,20 @@ fn next_layer(
 }
 
 /// For each line the least number of arcs of a path from it to a marked line, and `None` where there is no such path.
-/// There is one mark per line. Linear in lines and arcs.
+/// There is one mark per line, and `before` has for each line the lines from which arcs lead to it. Linear in lines and
+/// arcs.
 pub fn distances(
     alloc: Global,
     graph: &FlowGraph,
+    before: &[List<usize>],
     marks: &[bool],
 ) -> Result<Vec<Option<usize>>, NoMemory>
     requires formed { IsWellFormed graph.now }
+    requires before { AreTails graph.now before.now }
     requires size { length marks.now ≡ length graph.now.nodes }
     ensures { IfOk result (λ ds. AreDistances (Joins graph.now.arcs) (IsMarked marks.now) (length graph.now.nodes) ds.items) }
 {
-    let rows = predecessors(alloc, graph)?;
-    let mut distances = no_distances(alloc, marks.len())?;
+    let mut distances = no_distances(alloc, graph.nodes.len())?;
     let mut layer = Vec::new(alloc);
     spread(
         marked_lines(alloc, marks)?.as_slice(),
@@ -109,13 +112,7 @@ pub fn distances(
     let mut distance = 0;
     while !layer.is_empty() {
         distance += 1;
-        layer = next_layer(
-            alloc,
-            rows.as_slice(),
-            layer.as_slice(),
-            distance,
-            &mut distances,
-        )?;
+        layer = next_layer(alloc, before, layer.as_slice(), distance, &mut distances)?;
     }
     Ok(distances)
 }

@@ -7,7 +7,8 @@
 //! same state, an ending run of the slice with the same final value.
 //!
 //! How near a line is comes from one breadth-first search against the arcs (Moore, The shortest path through a maze,
-//! 1959). A slice takes time linear in the lines, the arcs and the expressions.
+//! 1959). A slice takes time linear in the lines, the arcs and the expressions. `outline` answers what a slice keeps and
+//! fixes without making it.
 #![tactic(auto)]
 
 mod copying;
@@ -15,10 +16,12 @@ mod distance;
 mod fixing;
 mod laws;
 mod lines;
+mod outlining;
 mod side;
 mod sliced;
 mod slicing;
 
 pub use laws::{slices_are_checked, slices_end_alike};
-pub use sliced::{Fixed, SlicedProc};
+pub use outlining::outline;
+pub use sliced::{Fixed, Outline, SlicedProc};
 pub use slicing::slice;

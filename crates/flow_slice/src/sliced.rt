@@ -9,6 +9,15 @@ pub struct Fixed {
     pub taken: bool,
 }
 
+/// What the slice of a procedure for one variable keeps and fixes.
+#[derive(Drop)]
+pub struct Outline {
+    /// The reachable lines that are relevant, ascending.
+    pub keep: List<usize>,
+    /// The reachable tests that are fixed, ascending.
+    pub fixed: List<Fixed>,
+}
+
 /// The slice of a procedure for one variable.
 #[derive(Drop)]
 pub struct SlicedProc {

@@ -10,7 +10,7 @@ use crate::distance::distances;
 use crate::fixing::{fixed_tests, kept_lines};
 use crate::lines::sliced_lines;
 use crate::sliced::SlicedProc;
-use flow_graph::{FlowGraph, reachable};
+use flow_graph::{FlowGraph, predecessors, reachable};
 use il_core::{CheckedProc, List, NoMemory, Place};
 use info_flow::RelevantSets;
 use std::alloc::Global;
@@ -45,7 +45,9 @@ pub fn slice(
 {
     let lines = proc.lines().as_slice();
     let marks = relevant.lines.as_slice();
-    let distances = distances(alloc, graph, marks)?;
+    let rows = predecessors(alloc, graph)?;
+    let before = rows.as_slice();
+    let distances = distances(alloc, graph, before, marks)?;
     let reached = reachable(alloc, graph)?;
     let keep = kept_lines(alloc, reached.as_slice(), marks)?;
     let fixed = fixed_tests(

@@ -49,41 +49,41 @@ less_marks lines masks k l u =
     let t = rw u at s in
     omega (arith, t)
 
-pub record Choosing (g : FlowGraph) (v : ℕ) (start : Sets) (changed : Bool) (now : Sets) (line : ℕ) : Type 0 where
+pub record Choosing (g : FlowGraph) (v : ℕ) (asked : List Bool) (start : Sets) (changed : Bool) (now : Sets) (line : ℕ) : Type 0 where
   pub grown : IsGrown g v now.lines.items now.needs.items
   pub same : changed ≡ false → now ≡ start
-  pub decided : changed ≡ false → (k : ℕ) → line ≤ k → k < length g.nodes → IsDecided g now.lines.items k
+  pub decided : changed ≡ false → (k : ℕ) → line ≤ k → k < length g.nodes → IsMarked asked k → IsDecided g now.lines.items k
   pub less : changed ≡ true → room_of now.lines.items now.needs.items < room_of start.lines.items start.needs.items
   pub no_more : room_of now.lines.items now.needs.items ≤ room_of start.lines.items start.needs.items
 
-pub choosing_start : (g : FlowGraph) (v : ℕ) (s : Sets) → IsGrown g v s.lines.items s.needs.items → Choosing g v s false s (length g.nodes)
-choosing_start g v s w = record {
+pub choosing_start : (g : FlowGraph) (v : ℕ) (asked : List Bool) (s : Sets) → IsGrown g v s.lines.items s.needs.items → Choosing g v asked s false s (length g.nodes)
+choosing_start g v asked s w = record {
   grown = w;
   same = λ f. refl;
-  decided = λ f k l m. absurd (omega arith);
+  decided = λ f k l m a. absurd (omega arith);
   less = λ f. absurd (false≢true f);
   no_more = omega arith;
 }
 
 -- a line that is decided
-pub choosing_same : (g : FlowGraph) (v : ℕ) (start : Sets) (changed : Bool) (now : Sets) (line : ℕ) → 0 < line → IsDecided g now.lines.items (line - 1)
-    → Choosing g v start changed now line → Choosing g v start changed now (line - 1)
-choosing_same g v start changed now line l d w = record {
+pub choosing_same : (g : FlowGraph) (v : ℕ) (asked : List Bool) (start : Sets) (changed : Bool) (now : Sets) (line : ℕ) → 0 < line
+    → (IsMarked asked (line - 1) → IsDecided g now.lines.items (line - 1)) → Choosing g v asked start changed now line → Choosing g v asked start changed now (line - 1)
+choosing_same g v asked start changed now line l d w = record {
   grown = w.grown;
   same = w.same;
-  decided = λ c k m n. elim (cases_lt k line) [
-    | inl here ↦ let same : line - 1 ≡ k = omega arith in rw same at d
-    | inr later ↦ w.decided c k later n
+  decided = λ c k m n a. elim (cases_lt k line) [
+    | inl here ↦ let same : line - 1 ≡ k = omega arith in rw same at (d (rw same a))
+    | inr later ↦ w.decided c k later n a
   ];
   less = w.less;
   no_more = w.no_more;
 }
 
 -- a line that gets its mark
-pub choosing_more : (g : FlowGraph) (v : ℕ) (start : Sets) (changed : Bool) (now more : Sets) (line : ℕ) → 0 < line → line ≤ length g.nodes
+pub choosing_more : (g : FlowGraph) (v : ℕ) (asked : List Bool) (start : Sets) (changed : Bool) (now more : Sets) (line : ℕ) → 0 < line → line ≤ length g.nodes
     → IsDeciding g now.lines.items (line - 1) → IsUnmarked now.lines.items (line - 1) → more.lines.items ≡ set now.lines.items (line - 1) true → more.needs.items ≡ now.needs.items
-    → Choosing g v start changed now line → Choosing g v start true more (line - 1)
-choosing_more g v start changed now more line l m d u e f w =
+    → Choosing g v asked start changed now line → Choosing g v asked start true more (line - 1)
+choosing_more g v asked start changed now more line l m d u e f w =
     let size = w.grown.lines_size in
     let n : line - 1 < length now.lines.items = omega arith in
     let r = less_marks now.lines.items now.needs.items (line - 1) n u in

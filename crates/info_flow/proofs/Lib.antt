@@ -8,7 +8,10 @@ pub mod PlaceMasks
 pub mod Growing
 pub mod Passing
 pub mod Deciding
+pub mod Labelled
 pub mod Leasts
 pub mod Listing
+pub mod MadeOf
+pub mod EachSets
 pub mod Rows
 pub mod PairsOfPaths

@@ -37,7 +37,7 @@ pair_along E F P f t h = (
 joins_of : (g : FlowGraph) (rows : List (List ℕ)) → AreRows g rows → (a b : ℕ) → IsNext rows a b → Joins g.arcs a b
 joins_of g rows r a b i = Joins-from_heads g.arcs a b (rw (r.each a) at i)
 
-next_of : (g : FlowGraph) (rows : List (List ℕ)) → AreRows g rows → (a b : ℕ) → Joins g.arcs a b → IsNext rows a b
+pub next_of : (g : FlowGraph) (rows : List (List ℕ)) → AreRows g rows → (a b : ℕ) → Joins g.arcs a b → IsNext rows a b
 next_of g rows r a b j = rw (r.each a) (heads_from-Joins g.arcs a b j)
 
 pub rows_below : (g : FlowGraph) (rows : List (List ℕ)) → IsWellFormed g → AreRows g rows → StayBelow (length rows) rows

@@ -1,16 +1,20 @@
 //! The rows of information flow.
-ghost use Rattle.std.specs.Prelude.{◌≡◌, ◌<◌, ◌≤◌, ◌↔◌, ℕ, true, length, IsTrue, IfOk};
-ghost use Rattle.flow_graph.specs.Graph.{Joins, IsWellFormed, HasPlaces};
+ghost use Rattle.std.specs.Prelude.{◌≡◌, ◌<◌, ◌↔◌, ℕ, map, length, IsTrue, IfOk};
+ghost use Rattle.il_core.specs.LineGraph.{IsIn};
+ghost use Rattle.flow_graph.specs.Graph.{IsWellFormed, HasPlaces};
 ghost use Rattle.flow_graph.specs.Reached.{IsInnerOrder, IsReached, Lists};
 ghost use Rattle.flow_graph.specs.Search.{IsMarked};
-ghost use Rattle.info_flow.specs.Relevance.{IsTest};
-ghost use Rattle.info_flow.specs.Growth.{HasPlace, AreRows, IsChosen};
+ghost use Rattle.info_flow.specs.declared.relevance.VariableSets.{VariableSets};
+ghost use Rattle.info_flow.specs.declared.row.FlowRow.{FlowRow};
+ghost use Rattle.info_flow.specs.Growth.{HasPlace, IsChosen};
 ghost use Rattle.info_flow.specs.Sources.{AreSources, AreFlows, HaveEqualValues};
+ghost use Rattle.info_flow.specs.Together.{HaveLeast, AreLeastOfEach};
 
-use crate::masks::has_place;
+use crate::masks::{has_place, mask_at};
+use crate::relevance::{VariableSets, sets_of_each};
 use crate::row::FlowRow;
-use crate::sets::{Sets, is_test};
-use flow_graph::{FlowGraph, reachable, successors};
+use crate::sets::is_test;
+use flow_graph::{FlowGraph, reachable};
 use il_core::{List, NoMemory, Place};
 use std::alloc::Global;
 
@@ -57,51 +61,79 @@ fn chosen_tests(
     Ok(tests)
 }
 
-/// The row of one variable.
-fn row_of_place(
+/// The row of a variable, by its sets.
+fn row_of_sets(
     alloc: Global,
     graph: &FlowGraph,
-    rows: &[List<usize>],
     reached: &[bool],
-    place: usize,
+    found: &VariableSets,
 ) -> Result<FlowRow, NoMemory>
     requires formed { IsWellFormed graph.now }
-    requires rows { AreRows graph.now rows.now }
     requires size { length reached.now ≡ length graph.now.nodes }
     requires reached { (k : ℕ) → IsMarked reached.now k ↔ IsReached graph.now.arcs k }
-    requires low { place < 64 }
-    ensures place { IfOk result (λ row. row.place ≡ place) }
+    requires least { HaveLeast graph.now found.now }
+    ensures place { IfOk result (λ row. row.place ≡ found.now.place) }
     ensures sources { IfOk result (AreSources graph.now) }
 {
-    let sets = Sets::least(alloc, graph, rows, place)?;
-    let sources = places_of(alloc, sets.needs[0])?;
-    let tests = chosen_tests(alloc, graph, reached, sets.lines.as_slice())?;
+    let lines = found.sets.lines.as_slice();
+    let needs = found.sets.needs.as_slice();
+    let sources = places_of(alloc, mask_at(needs, 0))?;
+    let tests = chosen_tests(alloc, graph, reached, lines)?;
     Ok(FlowRow {
-        place,
+        place: found.place,
         sources,
         tests,
     })
 }
 
-/// The rows of the variables, in the order of the places.
-pub fn flow_rows(
+/// The rows of variables, by their sets.
+fn rows_of_sets(
+    alloc: Global,
+    graph: &FlowGraph,
+    found: &[VariableSets],
+) -> Result<List<FlowRow>, NoMemory>
+    requires formed { IsWellFormed graph.now }
+    requires least { (sets : VariableSets) → IsIn found.now sets → HaveLeast graph.now sets }
+    ensures places { IfOk result (λ rows. map (λ row. row.place) rows ≡ map (λ sets. sets.place) found.now) }
+    ensures sources { IfOk result (λ rows. (row : FlowRow) → IsIn rows row → AreSources graph.now row) }
+{
+    let reached = reachable(alloc, graph)?;
+    let mut rows = List::new(alloc);
+    for sets in found {
+        let row = row_of_sets(alloc, graph, reached.as_slice(), sets)?;
+        rows.push(row)?;
+    }
+    Ok(rows)
+}
+
+/// The rows of information flow, and what they were read off.
+#[derive(Drop)]
+pub struct FlowsAndSets {
+    /// For each variable, in the order of the places, what its final value rests on.
+    pub flows: List<FlowRow>,
+    /// For each variable, in the order of the places, what is relevant to it, line by line.
+    pub sets: List<VariableSets>,
+}
+
+/// The rows that `flows` answers, and beside them, for each variable in the order of the places, the sets that `relevant`
+/// answers: these are found once for both. The graph, the places and the order are as `flows` asks. The only error is
+/// `NoMemory`.
+pub fn flows_and_sets(
     alloc: Global,
     graph: &FlowGraph,
     places: &[Place],
-) -> Result<List<FlowRow>, NoMemory>
+    order: &[usize],
+) -> Result<FlowsAndSets, NoMemory>
     requires formed { IsWellFormed graph.now }
     requires places { HasPlaces graph.now places.now }
-    ensures { IfOk result (AreFlows graph.now places.now) }
+    requires order { IsInnerOrder graph.now order.now }
+    ensures flows { IfOk result (λ both. AreFlows graph.now places.now both.flows) }
+    ensures agree { IfOk result (λ both. HaveEqualValues graph.now places.now both.flows) }
+    ensures sets { IfOk result (λ both. AreLeastOfEach graph.now places.now both.sets) }
 {
-    let rows = successors(alloc, graph)?;
-    let reached = reachable(alloc, graph)?;
-    let mut flows = List::new(alloc);
-    for (number, place) in places.iter().enumerate() {
-        if !place.old {
-            flows.push(row_of_place(alloc, graph, rows.as_slice(), reached.as_slice(), number)?)?;
-        }
-    }
-    Ok(flows)
+    let sets = sets_of_each(alloc, graph, places)?;
+    let flows = rows_of_sets(alloc, graph, sets.as_slice())?;
+    Ok(FlowsAndSets { flows, sets })
 }
 
 /// For each variable, in the order of the places, what its final value rests on: the places whose initial values decide
@@ -128,5 +160,6 @@ pub fn flows(
     ensures flows { IfOk result (AreFlows graph.now places.now) }
     ensures agree { IfOk result (HaveEqualValues graph.now places.now) }
 {
-    flow_rows(alloc, graph, places)
+    let both = flows_and_sets(alloc, graph, places, order)?;
+    Ok(both.flows)
 }

@@ -29,7 +29,7 @@ fn without(mask: u64, place: usize) -> u64
 }
 
 /// The mask of a line.
-fn mask_at(masks: &[u64], line: usize) -> u64
+pub fn mask_at(masks: &[u64], line: usize) -> u64
     requires { line < length masks.now }
     ensures { result ≡ slice_index_or masks.now line 0 }
 {

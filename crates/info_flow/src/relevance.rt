@@ -1,8 +1,9 @@
-//! The relevant lines and the needed places of one variable.
-ghost use Rattle.std.specs.Prelude.{IfOk};
+//! The relevant lines and the needed places of one variable, and of each.
+ghost use Rattle.std.specs.Prelude.{◌≡◌, ◌<◌, IfOk};
 ghost use Rattle.flow_graph.specs.Graph.{IsWellFormed, HasPlaces};
 ghost use Rattle.flow_graph.specs.Reached.{IsInnerOrder};
-ghost use Rattle.info_flow.specs.Growth.{AreLeast};
+ghost use Rattle.info_flow.specs.Growth.{AreLeast, AreRows};
+ghost use Rattle.info_flow.specs.Together.{HaveLeast, AreLeastOfEach};
 ghost use Rattle.info_flow.specs.Variable.{IsVariable};
 
 use crate::sets::Sets;
@@ -17,6 +18,15 @@ pub struct RelevantSets {
     pub lines: List<bool>,
     /// For each line the places that it needs: bit p for place p.
     pub needs: List<u64>,
+}
+
+/// What is relevant to the final value of a variable, with the variable.
+#[derive(Debug, Drop)]
+pub struct VariableSets {
+    /// The variable's place.
+    pub place: usize,
+    /// What is relevant to its final value.
+    pub sets: RelevantSets,
 }
 
 /// For the variable `place`, whether each line is relevant to its final value, and the mask of the places that each line
@@ -45,4 +55,45 @@ pub fn relevant(
         lines: List::from_vec(lines),
         needs: List::from_vec(needs),
     })
+}
+
+/// The sets of one variable, by rows of the lines behind each line.
+fn sets_of(
+    alloc: Global,
+    graph: &FlowGraph,
+    rows: &[List<usize>],
+    place: usize,
+) -> Result<VariableSets, NoMemory>
+    requires formed { IsWellFormed graph.now }
+    requires rows { AreRows graph.now rows.now }
+    requires low { place < 64 }
+    ensures place { IfOk result (λ found. found.place ≡ place) }
+    ensures least { IfOk result (HaveLeast graph.now) }
+{
+    let Sets { lines, needs } = Sets::least(alloc, graph, rows, place)?;
+    let sets = RelevantSets {
+        lines: List::from_vec(lines),
+        needs: List::from_vec(needs),
+    };
+    Ok(VariableSets { place, sets })
+}
+
+/// The sets of each variable, in the order of the places.
+pub fn sets_of_each(
+    alloc: Global,
+    graph: &FlowGraph,
+    places: &[Place],
+) -> Result<List<VariableSets>, NoMemory>
+    requires formed { IsWellFormed graph.now }
+    requires places { HasPlaces graph.now places.now }
+    ensures { IfOk result (AreLeastOfEach graph.now places.now) }
+{
+    let rows = successors(alloc, graph)?;
+    let mut found = List::new(alloc);
+    for (number, place) in places.iter().enumerate() {
+        if !place.old {
+            found.push(sets_of(alloc, graph, rows.as_slice(), number)?)?;
+        }
+    }
+    Ok(found)
 }

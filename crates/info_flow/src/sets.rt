@@ -1,11 +1,12 @@
 //! The marks of relevant lines and the masks of needed places, and what one line asks of them.
-ghost use Rattle.std.specs.Prelude.{◌≡◌, ◌<◌, ◌≤◌, ◌^◌, ◌↔◌, ◌⊎◌, ℕ, Some, IsTrue, IfSome, IfOk, true, false, length, replicate, slice_get, slice_index_or};
+ghost use Rattle.std.specs.Prelude.{◌≡◌, ◌<◌, ◌≤◌, ◌^◌, ◌↔◌, ◌⊎◌, ℕ, Some, IsTrue, IfSome, IfNone, IfOk, true, false, length, replicate, slice_get, slice_index_or};
 ghost use Rattle.std.specs.Bool.{OnTrue, OnFalse};
 ghost use Rattle.flow_graph.specs.Graph.{IsWellFormed, heads_from};
 ghost use Rattle.flow_graph.specs.Search.{IsMarked, IsUnmarked, row_of};
 ghost use Rattle.info_flow.specs.Relevance.{IsTest};
 ghost use Rattle.info_flow.specs.Growth.{HasPlace, IsWanted, IsSettled, AreSettled, AreRows, IsDeciding, IsDecided, AreDecided, AreOfLast, AreLeast, IsGrown, room_of};
 
+use crate::labels::{all_marks, are_consistent, labelled, own_labelled};
 use crate::masks::{is_assigned, needed_in, only_place, read_where, unassigned, united};
 use crate::pairs::has_pair;
 use flow_graph::{FlowGraph, Node, NodeKind};
@@ -169,29 +170,88 @@ impl Sets {
         while self.pass(graph, rows) {}
     }
 
-    /// Whether a line is a test that is not yet relevant, and two paths from it to relevant lines share it alone.
+    /// Whether a line is asked, and is a test that is not yet relevant, and two paths from it to relevant lines share it
+    /// alone.
     fn decides(
         &self,
         alloc: Global,
         graph: &FlowGraph,
         rows: &[List<usize>],
+        asked: &[bool],
         line: usize,
     ) -> Result<bool, NoMemory>
         requires formed { IsWellFormed graph.now }
         requires rows { AreRows graph.now rows.now }
         requires line { line < length graph.now.nodes }
         requires size { length self.now.lines.items ≡ length graph.now.nodes }
+        requires asked { line < length asked.now }
         ensures deciding { IfOk result (λ found. found ≡ true → IsDeciding graph.now self.now.lines.items line) }
         ensures unmarked { IfOk result (λ found. found ≡ true → IsUnmarked self.now.lines.items line) }
-        ensures decided { IfOk result (λ found. found ≡ false → IsDecided graph.now self.now.lines.items line) }
+        ensures decided { IfOk result (λ found. found ≡ false → IsMarked asked.now line → IsDecided graph.now self.now.lines.items line) }
     {
+        if !asked[line] {
+            return Ok(false);
+        }
         if self.lines[line] || !is_test(graph, line) {
             return Ok(false);
         }
         has_pair(alloc, rows, line, self.lines.as_slice())
     }
 
-    /// Makes each test relevant from which two paths to relevant lines share it alone, and answers whether there was one.
+    /// Makes each of the asked tests relevant from which two paths to relevant lines share it alone, and answers whether
+    /// there was one.
+    fn ask(
+        &mut self,
+        alloc: Global,
+        graph: &FlowGraph,
+        rows: &[List<usize>],
+        asked: &[bool],
+    ) -> Result<bool, NoMemory>
+        ghost place: { ℕ }
+        requires formed { IsWellFormed graph.now }
+        requires rows { AreRows graph.now rows.now }
+        requires grown { IsGrown graph.now place self.old.lines.items self.old.needs.items }
+        requires asked { length asked.now ≡ length graph.now.nodes }
+        ensures grown { IfOk result (λ _. IsGrown graph.now place self.new.lines.items self.new.needs.items) }
+        ensures same { IfOk result (λ changed. changed ≡ false → self.new ≡ self.old) }
+        ensures decided { IfOk result (λ changed. changed ≡ false → (k : ℕ) → k < length graph.now.nodes → IsMarked asked.now k → IsDecided graph.now self.new.lines.items k) }
+        ensures less { IfOk result (λ changed. changed ≡ true → room_of self.new.lines.items self.new.needs.items < room_of self.old.lines.items self.old.needs.items) }
+    {
+        let mut changed = false;
+        for line in (0..graph.nodes.len()).rev() {
+            if self.decides(alloc, graph, rows, asked, line)? {
+                self.lines[line] = true;
+                changed = true;
+            }
+        }
+        Ok(changed)
+    }
+
+    /// Whether labels of the lines show that no test is left from which two paths to relevant lines share it alone; where
+    /// they do not, marks of the lines that they leave in doubt.
+    fn doubts(
+        &self,
+        alloc: Global,
+        graph: &FlowGraph,
+        rows: &[List<usize>],
+    ) -> Result<Option<Vec<bool>>, NoMemory>
+        requires formed { IsWellFormed graph.now }
+        requires rows { AreRows graph.now rows.now }
+        requires size { length self.now.lines.items ≡ length graph.now.nodes }
+        ensures none { IfOk result (λ doubts. IfNone doubts (AreDecided graph.now self.now.lines.items)) }
+        ensures some { IfOk result (λ doubts. IfSome doubts (λ marks. length marks.items ≡ length graph.now.nodes)) }
+    {
+        let lines = self.lines.as_slice();
+        let found = labelled(alloc, rows, lines)?;
+        let labels = found.as_slice();
+        if are_consistent(rows, lines, labels) {
+            return Ok(None);
+        }
+        Ok(Some(own_labelled(alloc, labels)?))
+    }
+
+    /// Makes tests relevant from which two paths to relevant lines share each alone, and answers whether there was one:
+    /// first asks those that labels leave in doubt, and all where none of these is one.
     fn decide(
         &mut self,
         alloc: Global,
@@ -207,14 +267,14 @@ impl Sets {
         ensures decided { IfOk result (λ changed. changed ≡ false → AreDecided graph.now self.new.lines.items) }
         ensures less { IfOk result (λ changed. changed ≡ true → room_of self.new.lines.items self.new.needs.items < room_of self.old.lines.items self.old.needs.items) }
     {
-        let mut changed = false;
-        for line in (0..graph.nodes.len()).rev() {
-            if self.decides(alloc, graph, rows, line)? {
-                self.lines[line] = true;
-                changed = true;
-            }
+        let Some(doubts) = self.doubts(alloc, graph, rows)? else {
+            return Ok(false);
+        };
+        if self.ask(alloc, graph, rows, doubts.as_slice())? {
+            return Ok(true);
         }
-        Ok(changed)
+        let every = all_marks(alloc, graph.nodes.len())?;
+        self.ask(alloc, graph, rows, every.as_slice())
     }
 
     /// The least closed sets of a variable.

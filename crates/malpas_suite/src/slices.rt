@@ -1,15 +1,15 @@
 //! The slices of a procedure.
 ghost use Rattle.std.specs.Prelude.{◌≡◌, IfOk};
 ghost use Rattle.il_core.specs.Checked.{procedure_of};
-ghost use Rattle.flow_graph.specs.Graph.{graph_of, IsWellFormed, HasPlaces};
-ghost use Rattle.flow_graph.specs.Reached.{IsInnerOrder};
-ghost use Rattle.info_flow.specs.Variable.{IsVariable};
+ghost use Rattle.flow_graph.specs.Graph.{graph_of, IsWellFormed};
+ghost use Rattle.flow_slice.specs.Searched.{AreReached, AreTails};
+ghost use Rattle.info_flow.specs.Together.{HaveLeast, AreLeastOfEach};
 ghost use Rattle.report.specs.Sliced.{AreSlices, IsSliceRow};
 
-use flow_graph::FlowGraph;
-use flow_slice::slice;
-use il_core::{CheckedProc, List, NoMemory, Place};
-use info_flow::relevant;
+use flow_graph::{FlowGraph, predecessors, reachable};
+use flow_slice::outline;
+use il_core::{CheckedProc, List, NoMemory};
+use info_flow::VariableSets;
 use report::SliceRow;
 use std::alloc::Global;
 
@@ -18,48 +18,47 @@ fn slice_row(
     alloc: Global,
     proc: &CheckedProc,
     graph: &FlowGraph,
-    order: &[usize],
-    place: usize,
+    reached: &[bool],
+    before: &[List<usize>],
+    found: &VariableSets,
 ) -> Result<SliceRow, NoMemory>
     requires graph { graph.now ≡ graph_of (procedure_of proc.now) }
-    requires formed { IsWellFormed graph.now }
-    requires placed { HasPlaces graph.now proc.now.places }
-    requires order { IsInnerOrder graph.now order.now }
-    requires variable { IsVariable proc.now.places place }
-    ensures place { IfOk result (λ row. row.place ≡ place) }
+    requires reached { AreReached graph.now reached.now }
+    requires before { AreTails graph.now before.now }
+    requires least { HaveLeast graph.now found.now }
+    ensures place { IfOk result (λ row. row.place ≡ found.now.place) }
     ensures row { IfOk result (IsSliceRow graph.now) }
 {
-    let sets = relevant(alloc, graph, proc.places().as_slice(), order, place)?;
-    let sliced = slice(alloc, proc, graph, &sets)?;
+    let marks = found.sets.lines.as_slice();
+    let outline = outline(alloc, proc, graph, reached, before, marks)?;
     Ok(SliceRow {
-        place,
-        keep: sliced.keep,
-        fixed: sliced.fixed,
+        place: found.place,
+        keep: outline.keep,
+        fixed: outline.fixed,
     })
 }
 
-/// The slice for each variable of a reducible procedure, in the order of the places. The cost is that of the sets and
-/// the slice of each. The only error is `NoMemory`.
+/// The slice for each variable of a reducible procedure, in the order of the places, from the sets of each: one search for
+/// each variable. The only error is `NoMemory`.
 pub(crate) fn slices_of(
     alloc: Global,
     proc: &CheckedProc,
     graph: &FlowGraph,
-    places: &[Place],
-    order: &[usize],
+    found: &[VariableSets],
 ) -> Result<List<SliceRow>, NoMemory>
     requires graph { graph.now ≡ graph_of (procedure_of proc.now) }
     requires formed { IsWellFormed graph.now }
-    requires placed { HasPlaces graph.now places.now }
-    requires places { places.now ≡ proc.now.places }
-    requires order { IsInnerOrder graph.now order.now }
-    ensures { IfOk result (AreSlices graph.now places.now) }
+    requires found { AreLeastOfEach graph.now proc.now.places found.now }
+    ensures { IfOk result (AreSlices graph.now proc.now.places) }
 {
+    let marks = reachable(alloc, graph)?;
+    let rows = predecessors(alloc, graph)?;
+    let reached = marks.as_slice();
+    let before = rows.as_slice();
     let mut slices = List::new(alloc);
-    for (number, place) in places.iter().enumerate() {
-        if !place.old {
-            let row = slice_row(alloc, proc, graph, order, number)?;
-            slices.push(row)?;
-        }
+    for sets in found {
+        let row = slice_row(alloc, proc, graph, reached, before, sets)?;
+        slices.push(row)?;
     }
     Ok(slices)
 }

@@ -1,12 +1,10 @@
 -- The slices of a procedure, one for each variable: the reachable lines that are relevant to the variable, and the reachable tests that are not, each with the truth value to which the slice fixes it.
-use Rattle.std.specs.Prelude.{◌≡◌, ℕ, Bool, true, false, List, map}
-use Rattle.flow_graph.specs.Reached.{IsReached, Lists}
+use Rattle.std.specs.Prelude.{◌≡◌, ℕ, Bool, List, map}
 use Rattle.flow_graph.specs.declared.graph.FlowGraph.{FlowGraph}
-use Rattle.flow_slice.specs.Slice.{IsFixedTo}
-use Rattle.flow_slice.specs.declared.sliced.Fixed.{Fixed}
+use Rattle.flow_slice.specs.Slice.{IsOutline}
 use Rattle.il_core.specs.LineGraph.{IsIn}
 use Rattle.il_core.specs.declared.line.Place.{Place}
-use Rattle.info_flow.specs.Relevance.{IsTest, IsLeastClosed}
+use Rattle.info_flow.specs.Relevance.{IsLeastClosed}
 use Rattle.info_flow.specs.Sources.{variables_from}
 use Rattle.report.specs.declared.report.SliceRow.{SliceRow}
 
@@ -15,9 +13,7 @@ pub record IsSliceRow (g : FlowGraph) (row : SliceRow) : Type 0 where
   pub relevant : ℕ → Bool
   pub needs : ℕ → ℕ → Bool
   pub least : IsLeastClosed g row.place relevant needs
-  pub keep : Lists (λ k. IsReached g.arcs k × (relevant k ≡ true)) row.keep
-  pub fixed : Lists (λ k. IsReached g.arcs k × IsTest g.nodes k × (relevant k ≡ false)) (map (λ f. f.line) row.fixed)
-  pub sides : (f : Fixed) → IsIn row.fixed f → IsFixedTo g relevant f.line f.taken
+  pub outline : IsOutline g relevant (record { keep = row.keep; fixed = row.fixed })
 
 -- a row for each variable, in the order of the places
 pub record AreSlices (g : FlowGraph) (places : List Place) (rows : List SliceRow) : Type 0 where

@@ -8,23 +8,23 @@ pub loop-alloc-init : goal.loop-alloc-init
 loop-alloc-init c =
     let w = rw (c.as_slice-2.ensures, c.in_ok-distances.ensures, c.new-layer.ensures.items) at c.in_ok-spread.ensures in
     record {
-      size = w.size ∙ length-replicate _ _ ∙ c.requires.size;
+      size = w.size ∙ length-replicate _ _ ∙ c.len.ensures;
       layered = layered_start c.args.graph.now.arcs (is_relevant c.args.marks.now) _ c.in_ok-marked_lines.field-0 c.spread.new.distances.items c.spread.new.layer.items
           c.in_ok-marked_lines.ensures.exact w;
     }
 
 pub next_layer-requires-clause-rows : goal.next_layer-requires-clause-rows
 next_layer-requires-clause-rows c =
-    rw c.as_slice-in-loop-alloc.ensures (tails_below c.args.graph.now c.in_ok-rows.rows c.requires.formed c.in_ok-rows.ensures.size c.in_ok-rows.ensures.rows)
+    tails_below c.args.graph.now c.args.before.now c.requires.formed c.requires.before.size c.requires.before.each
 
 pub loop-alloc-preserved : goal.loop-alloc-preserved
 loop-alloc-preserved c =
-    let w = rw (c.as_slice-in-loop-alloc.ensures, c.as_slice-in-loop-alloc-2.ensures.value) at c.in_ok-layer.ensures in
+    let w = rw c.as_slice-in-loop-alloc.ensures.value at c.in_ok-layer.ensures in
     let some : 0 < length c.loop-alloc.layer.items = search rules in
     record {
       size = w.size ∙ c.loop-alloc.invariant.size;
-      layered = layered_on c.args.graph.now.arcs (is_relevant c.args.marks.now) c.in_ok-rows.rows c.loop-alloc.distance (c.loop-alloc.distance + 1) c.loop-alloc.distances.items _
-          c.loop-alloc.layer.items _ c.in_ok-rows.ensures.rows some (omega arith) c.loop-alloc.invariant.layered w;
+      layered = layered_on c.args.graph.now.arcs (is_relevant c.args.marks.now) c.args.before.now c.loop-alloc.distance (c.loop-alloc.distance + 1) c.loop-alloc.distances.items _
+          c.loop-alloc.layer.items _ c.requires.before.each some (omega arith) c.loop-alloc.invariant.layered w;
     }
 
 pub returns : goal.returns

@@ -9,6 +9,12 @@ use Rattle.flow_slice.proofs.slicing.slice.Goals as goal
 pub distances-requires-clause-formed : goal.distances-requires-clause-formed
 distances-requires-clause-formed c = rw c.requires.graph (graph_formed (procedure_of c.args.proc.now) c.lines.ensures.checked)
 
+pub predecessors-requires : goal.predecessors-requires
+predecessors-requires c = rw c.requires.graph (graph_formed (procedure_of c.args.proc.now) c.lines.ensures.checked)
+
+pub distances-requires-clause-before : goal.distances-requires-clause-before
+distances-requires-clause-before c = rw c.as_slice-before.ensures (record { size = c.in_ok-rows.ensures.size; each = c.in_ok-rows.ensures.rows })
+
 pub reachable-requires : goal.reachable-requires
 reachable-requires c = rw c.requires.graph (graph_formed (procedure_of c.args.proc.now) c.lines.ensures.checked)
 

@@ -1,19 +1,32 @@
-use Rattle.std.proofs.Common.{sym, ap, ◌∙◌}
-use Rattle.il_core.specs.declared.line.Place.{Place}
-use Rattle.malpas_suite.proofs.SliceRows.{slices_start, slices_push, slices_skip, slices_end}
+use Rattle.std.proofs.Common.{sym, ap, subst, ◌∙◌}
+use Rattle.il_core.specs.LineGraph.{IsIn}
+use Rattle.flow_graph.proofs.Members.{IsIn-get_or}
+use Rattle.info_flow.specs.declared.relevance.VariableSets.{VariableSets}
+use Rattle.info_flow.proofs.MadeOf.{made_more, made_all}
+use Rattle.report.specs.Sliced.{IsSliceRow}
+use Rattle.report.specs.declared.report.SliceRow.{SliceRow}
 use Rattle.malpas_suite.proofs.slices.slices_of.Goals as goal
-use Rattle.malpas_suite.proofs.slices.slices_of.Goals.{then-not-place+in_ok-row+in_ok-push, else-not-place}
 
-pub loop-number-preserved : goal.loop-number-preserved
-loop-number-preserved c =
-    let here = ap (λ (p : Place). p.old) (sym c.index-places-number.is) in
-    elim c.if-not-place.branch [
-      | then-not-place+in_ok-row+in_ok-push w ↦
-          rw (w.slices-is, w.in_ok-push.ensures.ok)
-          (slices_push c.args.graph.now c.args.places.now c.loop-number.number c.index-places-number.result c.loop-number.slices w.in_ok-row.row
-          c.loop-number-test.true (here ∙ w.if-not-place.true) w.in_ok-row.ensures.place w.in_ok-row.ensures.row c.loop-number.invariant)
-      | else-not-place w ↦
-          rw w.slices-is
-          (slices_skip c.args.graph.now c.args.places.now c.loop-number.number c.index-places-number.result c.loop-number.slices c.loop-number-test.true
-          (here ∙ w.if-not-place.false) c.loop-number.invariant)
-    ]
+pub slice_row-requires-clause-reached : goal.slice_row-requires-clause-reached
+slice_row-requires-clause-reached c = rw c.as_slice-reached.ensures (record { size = c.in_ok-marks.ensures.size; exact = c.in_ok-marks.ensures.exact })
+
+pub slice_row-requires-clause-before : goal.slice_row-requires-clause-before
+slice_row-requires-clause-before c = rw c.as_slice-before.ensures (record { size = c.in_ok-rows.ensures.size; each = c.in_ok-rows.ensures.rows })
+
+pub slice_row-requires-clause-least : goal.slice_row-requires-clause-least
+slice_row-requires-clause-least c =
+    c.requires.found.each _ (subst (IsIn c.args.found.now) (sym c.sets-item.is) (IsIn-get_or c.args.found.now c.loop-sets.sets-index _ c.loop-sets-test.true))
+
+pub loop-sets-preserved : goal.loop-sets-preserved
+loop-sets-preserved c =
+    rw c.in_ok-push.ensures.ok
+    (made_more (λ (s : VariableSets). s.place) (λ (r : SliceRow). r.place) (IsSliceRow c.args.graph.now) c.args.found.now c.loop-sets.sets-index _ c.loop-sets.slices c.in_ok-row.row
+    c.loop-sets-test.true (c.in_ok-row.ensures.place ∙ ap (λ (s : VariableSets). s.place) c.sets-item.is) c.in_ok-row.ensures.row c.loop-sets.invariant)
+
+pub returns : goal.returns
+returns c = record {
+  variables =
+      made_all (λ (s : VariableSets). s.place) (λ (r : SliceRow). r.place) (IsSliceRow c.args.graph.now) c.args.found.now c.loop-sets.sets-index c.loop-sets.slices
+      c.loop-sets-test.false c.loop-sets.invariant ∙ c.requires.found.variables;
+  each = c.loop-sets.invariant.each;
+}

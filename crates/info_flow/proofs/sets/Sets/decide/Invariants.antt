@@ -1,5 +1,4 @@
-use Rattle.info_flow.proofs.Deciding.{Choosing}
 use Rattle.info_flow.proofs.sets.Sets.decide.Given as goal
 
-abbrev pub invariant-loop-line : goal.invariant-loop-line
-invariant-loop-line g l = Choosing l.graph g.place l.fn.self l.changed l.self l.line
+abbrev pub ghost-ask : goal.ghost-ask
+ghost-ask g a = g.place

@@ -27,7 +27,7 @@ returns-clause-deciding c =
 pub returns-clause-decided : goal.returns-clause-decided
 returns-clause-decided c =
     IfOk-weaker c.has_pair.result (λ found. (found ≡ true) ↔ HasPair (IsNext c.args.rows.now) (IsMarked c.as_slice.result.now) c.args.line)
-    (λ found. found ≡ false → IsDecided c.args.graph.now c.args.self.now.lines.items c.args.line)
-    (λ found told e d. absurd (false≢true (sym e ∙ told.1 (rw c.as_slice.ensures.value
+    (λ found. found ≡ false → IsMarked c.args.asked.now c.args.line → IsDecided c.args.graph.now c.args.self.now.lines.items c.args.line)
+    (λ found told e asked d. absurd (false≢true (sym e ∙ told.1 (rw c.as_slice.ensures.value
     ((pair_by_rows c.args.graph.now c.args.rows.now c.requires.rows (IsMarked c.args.self.now.lines.items) c.args.line).1 d.1)))))
     c.has_pair.ensures

@@ -1,4 +1,4 @@
-use Rattle.info_flow.proofs.flowing.row_of_place.Given as goal
+use Rattle.info_flow.proofs.relevance.sets_of.Given as goal
 
 abbrev pub ghost-least : goal.ghost-least
 ghost-least a = a.place
