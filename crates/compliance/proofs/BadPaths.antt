@@ -168,7 +168,7 @@ ends_opening p loops pc r h arcs regions k e = (
         ∙ ap (ends_within p (opening loops pc)) (ap (λ (x : PlainRow). x.path) k.row ∙ along-path k.ways (own_values (length p.places)))
 
 -- whether a halt is told
-some_told : (h : Halt) (bad ends : Bool) → is_some (if bad && not ends then Some h else None) ≡ bad && not ends
+pub some_told : (h : Halt) (bad ends : Bool) → is_some (if bad && not ends then Some h else None) ≡ bad && not ends
 some_told h true true = refl
 some_told h true false = refl
 some_told h false ends = refl

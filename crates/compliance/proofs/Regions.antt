@@ -8,7 +8,7 @@ use Rattle.std.proofs.lemmas.Option.{slice_get-get_or, slice_get_within, get_or_
 use Rattle.il_core.specs.LineGraph.{IsIn}
 use Rattle.il_core.specs.Procedure.{Procedure}
 use Rattle.il_core.specs.Checked.{IsChecked}
-use Rattle.il_core.specs.declared.line.Halt.{Halt}
+use Rattle.il_core.specs.Run.{is_bad}
 use Rattle.control_flow.specs.Control.{heads_of}
 use Rattle.control_flow.specs.declared.control.LoopInfo.{LoopInfo}
 use Rattle.test_graph.specs.Laws.{WaysGoAlongArcs}
@@ -18,10 +18,9 @@ use Rattle.region_paths.specs.Laws.{BeginsRegion}
 use Rattle.region_paths.specs.Size.{IsPast}
 use Rattle.region_paths.specs.declared.limit.Limit.{Limit}
 use Rattle.region_paths.proofs.Walking.{in_at}
-use Rattle.semantic_tables.specs.Row.{row_of, bare_row}
-use Rattle.semantic_tables.specs.Hazards.{IsHazard, AreBareRowsOf}
-use Rattle.semantic_tables.specs.declared.row.Row.{Row}
-use Rattle.compliance.specs.Behind.{bad_halt, is_bad_behind, IsThreatRow, IsRegionTold, AddsRegion, AddsTold}
+use Rattle.semantic_tables.specs.Hazards.{NormalHazard, hazard_of, normal_hazard, stops_badly, IsHazard, AreHazardsOf, HasLeast}
+use Rattle.semantic_tables.specs.declared.hazard.Hazard.{Hazard}
+use Rattle.compliance.specs.Behind.{is_bad_behind, IsHazardBehind, IsRegionTold, AddsRegion, AddsTold}
 use Rattle.compliance.specs.Opening.{opened_by}
 use Rattle.compliance.specs.Safe.{AreThreatsOf}
 use Rattle.compliance.specs.declared.threat.Threat.{Threat}
@@ -30,27 +29,34 @@ use Rattle.compliance.proofs.Following.{Rise, rises}
 use Rattle.compliance.proofs.Told.{path_at, tested}
 use Rattle.compliance.proofs.BadPaths.{threats_filtered, bad_is_threat}
 
--- each row that halts badly behind the leading assertions is that of a threat
-abbrev pub AreThreatRows : Procedure → ℕ → List ℕ → List Row → Type 0
-AreThreatRows p pc lines rows = All (λ (row : Row). (h : Halt) → bad_halt p lines row.stop row.path ≡ Some h → IsThreatRow p pc row) rows
+-- a hazard halts badly
+halts_badly : (p : Procedure) (loops : List LoopInfo) (pc : ℕ) (hazard : Hazard) (r : RegionPath) → hazard_of hazard ≡ normal_hazard r → IsHazard p loops pc r → is_bad hazard.halt ≡ true
+halts_badly p loops pc hazard r e h = ap (λ (x : NormalHazard). stops_badly x.stop) e ∙ h.1
 
-pub threat_rows : (p : Procedure) (loops : List LoopInfo) (pc : ℕ) (lines : List ℕ) (rows : List Row) → WaysGoAlongArcs → BeginsRegion p loops pc → lines ≡ leading_of loops pc
-    → AreBareRowsOf (IsHazard p loops pc) rows → AreThreatRows p pc lines rows
-threat_rows p loops pc lines rows arcs b same k = λ j d low h bad.
-    let u = path_at rows k.0 j (get_or rows j d) k.2 (slice_get-get_or rows j d low) in
-    let long = ((k.1.each u.path).0 (in_at k.0 j u.path u.there)).0 in
-    let told = ap (λ xs. is_bad_behind p xs u.path) (sym same) ∙ tested p lines (get_or rows j d) u.path (Some h) u.told bad in
-    record { loops = loops; begins = b; path = u.path; threat = bad_is_threat p loops pc u.path arcs b.regions long told; told = u.told }
+-- each hazard is a threat unless it comes to its end in the leading assertions
+pub hazards_behind : (p : Procedure) (loops : List LoopInfo) (pc : ℕ) (lines : List ℕ) (hazards : List Hazard) → WaysGoAlongArcs → BeginsRegion p loops pc → lines ≡ leading_of loops pc
+    → AreHazardsOf (IsHazard p loops pc) hazards → All (HasLeast p.places pc) hazards → All (IsHazardBehind p pc lines) hazards
+hazards_behind p loops pc lines hazards arcs b same k least = λ j d low.
+    let u = path_at hazards k.0 j (get_or hazards j d) k.2 (slice_get-get_or hazards j d low) in
+    let hazard = (k.1.each u.path).0 (in_at k.0 j u.path u.there) in
+    let bad = halts_badly p loops pc (get_or hazards j d) u.path u.told hazard in
+    record {
+      bad = bad;
+      threat = λ behind.
+          let told = ap (λ xs. is_bad_behind p xs u.path) (sym same) ∙ tested p lines (get_or hazards j d) u.path false u.told bad behind in
+          record { loops = loops; begins = b; path = u.path; threat = bad_is_threat p loops pc u.path arcs b.regions hazard.0 told; told = u.told };
+      least = least j d low;
+    }
 
 -- a region past its size adds none
 pub adds_none : (p : Procedure) (loops : List LoopInfo) (pc : ℕ) (limit : Limit) (found : List Threat) → IsPast p loops pc (Some limit) → AddsRegion p loops pc found found
 adds_none p loops pc limit found k = ([], sym (append-nil found), record { past = Some limit; size = k; listed = refl })
 
 -- a region within its size adds its threats
-pub adds_threats : (p : Procedure) (loops : List LoopInfo) (pc : ℕ) (lines : List ℕ) (rows : List Row) (before after : List Threat) → WaysGoAlongArcs → AreRegions p loops
-    → lines ≡ leading_of loops pc → IsPast p loops pc None → AreBareRowsOf (IsHazard p loops pc) rows
-    → ((paths : List RegionPath) → map row_of rows ≡ map bare_row paths → AddsTold p pc (filter (is_bad_behind p lines) paths) before after) → AddsRegion p loops pc before after
-adds_threats p loops pc lines rows before after arcs regions same size k told =
+pub adds_threats : (p : Procedure) (loops : List LoopInfo) (pc : ℕ) (lines : List ℕ) (hazards : List Hazard) (before after : List Threat) → WaysGoAlongArcs → AreRegions p loops
+    → lines ≡ leading_of loops pc → IsPast p loops pc None → AreHazardsOf (IsHazard p loops pc) hazards
+    → ((paths : List RegionPath) → map hazard_of hazards ≡ map normal_hazard paths → AddsTold p pc (filter (is_bad_behind p lines) paths) before after) → AddsRegion p loops pc before after
+adds_threats p loops pc lines hazards before after arcs regions same size k told =
     let a = told k.0 k.2 in
     let all = subst (λ xs. AddsTold p pc (filter (is_bad_behind p xs) k.0) before after) same a in
     (all.0, all.1, record { past = None; size = size; listed = (filter (is_bad_behind p (leading_of loops pc)) k.0, threats_filtered p loops pc k.0 arcs regions k.1, all.2) })

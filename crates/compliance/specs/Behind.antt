@@ -1,5 +1,5 @@
 -- How the decisions of a path lead through lines that are passed one after the other, and what that tells of a path: whether it is a threat.
-use Rattle.std.specs.Prelude.{◌≡◌, ℕ, Bool, true, false, not, ◌&&◌, Option, Some, None, is_some, List, [], ◌∷◌, ◌++◌, if◌then◌else◌}
+use Rattle.std.specs.Prelude.{◌≡◌, ℕ, Bool, true, false, not, ◌&&◌, Option, Some, None, is_some, List, [], ◌∷◌, ◌++◌, map, if◌then◌else◌}
 use Rattle.il_core.specs.Procedure.{Procedure}
 use Rattle.il_core.specs.Run.{is_bad}
 use Rattle.il_core.specs.declared.line.Halt.{Halt}
@@ -7,13 +7,15 @@ use Rattle.il_core.specs.declared.line.Next.TheVariants as next
 use Rattle.il_core.specs.declared.line.Stop.{Stop}
 use Rattle.il_core.specs.declared.line.Stop.TheVariants as stop
 use Rattle.control_flow.specs.declared.control.LoopInfo.{LoopInfo}
+use Rattle.sym_simplify.specs.Literal.{literal_form_of}
+use Rattle.sym_simplify.specs.declared.normal.LitForm.{LitForm}
 use Rattle.test_graph.specs.Decision.{Decision, ask, done, decision_at}
 use Rattle.region_paths.specs.Laws.{BeginsRegion}
 use Rattle.region_paths.specs.Listing.{RegionPath}
 use Rattle.region_paths.specs.Size.{IsPast}
 use Rattle.region_paths.specs.declared.limit.Limit.{Limit}
-use Rattle.semantic_tables.specs.Row.{row_of, bare_row}
-use Rattle.semantic_tables.specs.declared.row.Row.{Row}
+use Rattle.semantic_tables.specs.Hazards.{NormalHazard, hazard_of, normal_hazard, HasLeast}
+use Rattle.semantic_tables.specs.declared.hazard.Hazard.{Hazard}
 use Rattle.compliance.specs.Threat.{IsThreat}
 use Rattle.compliance.specs.Safe.{AreTold, AreListedWithin}
 use Rattle.compliance.specs.declared.threat.Threat.{Threat}
@@ -41,13 +43,23 @@ abbrev pub bad_halt : Procedure → List ℕ → Stop → List Bool → Option H
 bad_halt p lines (stop.Head q) path = None
 bad_halt p lines (stop.Halted h) path = if is_bad h && not (ends_within p lines path) then Some h else None
 
--- a row of a threat of the region of line pc
-pub record IsThreatRow (p : Procedure) (pc : ℕ) (row : Row) : Type 0 where
+-- the normal hazard with these decisions and literals that halts like this
+abbrev pub hazard_from : List Bool → List LitForm → Halt → NormalHazard
+hazard_from path literals h = record { path = path; literals = map literal_form_of literals; stop = stop.Halted h }
+
+-- the hazard of a threat of the region of line pc
+pub record IsThreatOf (p : Procedure) (pc : ℕ) (n : NormalHazard) : Type 0 where
   pub loops : List LoopInfo
   pub begins : BeginsRegion p loops pc
   pub path : RegionPath
   pub threat : IsThreat p loops pc path
-  pub told : row_of row ≡ bare_row path
+  pub told : n ≡ normal_hazard path
+
+-- a hazard of the region of line pc, which is a threat unless it comes to its end in these lines
+pub record IsHazardBehind (p : Procedure) (pc : ℕ) (lines : List ℕ) (h : Hazard) : Type 0 where
+  pub bad : is_bad h.halt ≡ true
+  pub threat : ends_within p lines h.path ≡ false → IsThreatOf p pc (hazard_of h)
+  pub least : HasLeast p.places pc h
 
 -- whether a path halts badly behind these lines
 abbrev pub is_bad_behind : Procedure → List ℕ → RegionPath → Bool

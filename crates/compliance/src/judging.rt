@@ -1,22 +1,19 @@
 //! The verdict of a threat.
-ghost use Rattle.std.specs.Prelude.{◌≡◌, ℕ, All, IfOk, length, map};
+ghost use Rattle.std.specs.Prelude.{◌≡◌, ℕ, IfOk, map};
 ghost use Rattle.il_core.specs.Checked.{procedure_of};
-ghost use Rattle.il_core.specs.declared.line.Stop.TheVariants.{Halted};
 ghost use Rattle.sym_simplify.specs.Literal.{literal_form_of};
 ghost use Rattle.region_paths.specs.Listing.{RegionPath};
 ghost use Rattle.path_inputs.specs.Core as core;
-ghost use Rattle.semantic_tables.specs.Row.{row_of, bare_row};
-ghost use Rattle.semantic_tables.specs.Fit.{HasSoundLiterals};
+ghost use Rattle.semantic_tables.specs.Hazards.{hazard_of, normal_hazard, IsLeastOf, HasLeast};
 ghost use Rattle.compliance.specs.Verdict.{IsFirstLoose, HasVerdict};
-ghost use Rattle.compliance.specs.Behind.{IsThreatRow};
+ghost use Rattle.compliance.specs.Behind.{IsThreatOf, hazard_from};
 ghost use Rattle.compliance.specs.Safe.{IsTold};
 
 use crate::laws::{open_threats_are_loose, threats_are_taken_soon};
 use crate::stepping::is_taken;
 use crate::threat::{Threat, Verdict};
-use il_core::{CheckedProc, Halt, NoMemory, Relation};
-use path_inputs::least_input;
-use semantic_tables::Row;
+use il_core::{CheckedProc, Halt, List, NoMemory, Relation};
+use semantic_tables::Hazard;
 use std::alloc::Global;
 use sym_simplify::{LitForm, is_easy, multiple_in};
 
@@ -55,25 +52,25 @@ fn first_loose(literals: &[LitForm]) -> usize
     unreachable!()
 }
 
-/// The verdict of a threat of the region of line `pc`, which halts like this.
+/// The verdict of a threat of the region of line `pc`, whose least input is given; none where it is plainly refuted.
 fn verdict_of(
     alloc: Global,
     proc: &CheckedProc,
     pc: usize,
-    row: &Row,
+    path: &[bool],
+    literals: &[LitForm],
     halt: Halt,
+    least: Option<List<i64>>,
 ) -> Result<Verdict, NoMemory>
-    requires threat { IsThreatRow (procedure_of proc.now) pc row.now }
-    requires stop { row.now.stop ≡ Halted halt }
-    requires fits { HasSoundLiterals (length proc.now.places) row.now }
-    ensures { IfOk result (λ v. (r : RegionPath) → row_of row.now ≡ bare_row r → HasVerdict (procedure_of proc.now) pc r v) }
+    requires threat { IsThreatOf (procedure_of proc.now) pc (hazard_from path.now literals.now halt) }
+    requires least { IsLeastOf proc.now.places pc (map literal_form_of literals.now) least }
+    ensures { IfOk result (λ v. (r : RegionPath) → hazard_from path.now literals.now halt ≡ normal_hazard r → HasVerdict (procedure_of proc.now) pc r v) }
 {
-    let literals = row.literals.as_slice();
-    let input = match least_input(alloc, proc.places().as_slice(), pc, literals)? {
+    let input = match least {
         Some(input) => input,
         None => return Ok(Verdict::Refuted),
     };
-    if is_taken(alloc, proc, pc, input.as_slice(), row.path.as_slice(), halt)? {
+    if is_taken(alloc, proc, pc, input.as_slice(), path, halt)? {
         return Ok(Verdict::Shown(input));
     }
     threats_are_taken_soon();
@@ -81,21 +78,32 @@ fn verdict_of(
     Ok(Verdict::Open(first_loose(literals)))
 }
 
-/// A threat of the region of line `pc`, which halts like this, with its verdict.
+/// The threat that a hazard of the region of line `pc` is, with its verdict.
 pub fn judged(
     alloc: Global,
     proc: &CheckedProc,
     pc: usize,
-    row: Row,
-    halt: Halt,
+    hazard: Hazard,
 ) -> Result<Threat, NoMemory>
-    requires threat { IsThreatRow (procedure_of proc.now) pc row }
-    requires stop { row.stop ≡ Halted halt }
-    requires fits { HasSoundLiterals (length proc.now.places) row }
-    ensures { IfOk result (λ t. (r : RegionPath) → row_of row ≡ bare_row r → IsTold (procedure_of proc.now) pc r t) }
+    requires threat { IsThreatOf (procedure_of proc.now) pc (hazard_of hazard) }
+    requires least { HasLeast proc.now.places pc hazard }
+    ensures { IfOk result (λ t. (r : RegionPath) → hazard_of hazard ≡ normal_hazard r → IsTold (procedure_of proc.now) pc r t) }
 {
-    let verdict = verdict_of(alloc, proc, pc, &row, halt)?;
-    let Row { path, literals, .. } = row;
+    let Hazard {
+        path,
+        literals,
+        halt,
+        least,
+    } = hazard;
+    let verdict = verdict_of(
+        alloc,
+        proc,
+        pc,
+        path.as_slice(),
+        literals.as_slice(),
+        halt,
+        least,
+    )?;
     Ok(Threat {
         region: pc,
         path,

@@ -1,8 +1,7 @@
 //! The threats of all regions.
-ghost use Rattle.std.specs.Prelude.{◌≡◌, ◌++◌, Some, List, All, IfOk, OnOk, length, map, filter};
+ghost use Rattle.std.specs.Prelude.{◌≡◌, ◌∷◌, [], List, All, IfOk, OnOk, map, filter};
 ghost use Rattle.il_core.specs.LineGraph.{IsIn};
 ghost use Rattle.il_core.specs.Checked.{procedure_of, IsChecked};
-ghost use Rattle.il_core.specs.declared.line.Halt.{Halt};
 ghost use Rattle.flow_graph.specs.Graph.{graph_of};
 ghost use Rattle.control_flow.specs.Control.{IsControlOf};
 ghost use Rattle.control_flow.specs.declared.control.Shape.TheVariants.{Reducible};
@@ -11,21 +10,19 @@ ghost use Rattle.test_graph.specs.Lowered.{IsLowered};
 ghost use Rattle.region_paths.specs.Region.{first_lines, leading_of};
 ghost use Rattle.region_paths.specs.Listing.{RegionPath};
 ghost use Rattle.region_paths.specs.Walk.{AreLines};
-ghost use Rattle.semantic_tables.specs.Row.{row_of, bare_row};
-ghost use Rattle.semantic_tables.specs.Fit.{HasSoundLiterals};
-ghost use Rattle.compliance.specs.Behind as behind;
-ghost use Rattle.compliance.specs.Behind.{IsThreatRow, is_bad_behind, AddsRegion, AddsTold};
+ghost use Rattle.semantic_tables.specs.Hazards.{hazard_of, normal_hazard};
+ghost use Rattle.compliance.specs.Behind.{IsHazardBehind, is_bad_behind, AddsRegion, AddsTold};
 ghost use Rattle.compliance.specs.Safe.{AreThreatsOf, IsSafeWhereRefuted, NamesItsLiteral};
 ghost use Rattle.compliance.specs.declared.threat.Threat as the_threat;
 
 use crate::judging::judged;
 use crate::laws::refuted_lists_mean_no_bad_run;
-use crate::opening::bad_halt;
+use crate::opening::ends_within;
 use crate::threat::Threat;
 use control_flow::Control;
 use il_core::{CheckedProc, List, NoMemory};
 use interval_reduce::Derivation;
-use semantic_tables::{Row, TableOr, hazards};
+use semantic_tables::{Hazard, HazardsOr, hazards};
 use std::alloc::Global;
 use test_graph::{TestGraph, ways_go_along_arcs};
 
@@ -36,26 +33,45 @@ fn told_checked(proc: &CheckedProc)
     let _places = proc.places();
 }
 
-/// Adds the threats among the rows of the region of line `pc`, whose leading assertions are given.
+/// Adds the threat that a hazard of the region of line `pc` is, unless it comes to its end in the region's leading
+/// assertions.
+fn add_threat(
+    alloc: Global,
+    proc: &CheckedProc,
+    graph: &TestGraph,
+    pc: usize,
+    leading: &[usize],
+    hazard: Hazard,
+    found: &mut List<Threat>,
+) -> Result<(), NoMemory>
+    requires lowered { IsLowered (procedure_of proc.now) graph.now }
+    requires leading { AreLines (procedure_of proc.now) leading.now }
+    requires hazard { IsHazardBehind (procedure_of proc.now) pc leading.now hazard }
+    ensures { OnOk result ((r : RegionPath) → hazard_of hazard ≡ normal_hazard r → AddsTold (procedure_of proc.now) pc (filter (is_bad_behind (procedure_of proc.now) leading.now) (r ∷ [])) found.old found.new) }
+{
+    if ends_within(proc, graph, leading, hazard.path.as_slice()) {
+        return Ok(());
+    }
+    found.push(judged(alloc, proc, pc, hazard)?)
+}
+
+/// Adds the threats among the hazards of the region of line `pc`, whose leading assertions are given.
 fn add_threats(
     alloc: Global,
     proc: &CheckedProc,
     graph: &TestGraph,
     pc: usize,
     leading: &[usize],
-    rows: List<Row>,
+    hazards: List<Hazard>,
     found: &mut List<Threat>,
 ) -> Result<(), NoMemory>
     requires lowered { IsLowered (procedure_of proc.now) graph.now }
     requires leading { AreLines (procedure_of proc.now) leading.now }
-    requires rows { All (λ row. (h : Halt) → behind.bad_halt (procedure_of proc.now) leading.now row.stop row.path ≡ Some h → IsThreatRow (procedure_of proc.now) pc row) rows }
-    requires fits { All (HasSoundLiterals (length proc.now.places)) rows }
-    ensures { OnOk result ((paths : List RegionPath) → map row_of rows ≡ map bare_row paths → AddsTold (procedure_of proc.now) pc (filter (is_bad_behind (procedure_of proc.now) leading.now) paths) found.old found.new) }
+    requires hazards { All (IsHazardBehind (procedure_of proc.now) pc leading.now) hazards }
+    ensures { OnOk result ((paths : List RegionPath) → map hazard_of hazards ≡ map normal_hazard paths → AddsTold (procedure_of proc.now) pc (filter (is_bad_behind (procedure_of proc.now) leading.now) paths) found.old found.new) }
 {
-    for row in rows.into_vec() {
-        if let Some(halt) = bad_halt(proc, graph, leading, &row) {
-            found.push(judged(alloc, proc, pc, row, halt)?)?;
-        }
+    for hazard in hazards.into_vec() {
+        add_threat(alloc, proc, graph, pc, leading, hazard, found)?;
     }
     Ok(())
 }
@@ -82,8 +98,8 @@ fn add_region(
 {
     ways_go_along_arcs();
     match hazards(alloc, proc, graph, control, derivation, pc)? {
-        TableOr::Past(_) => Ok(()),
-        TableOr::Table(rows) => add_threats(alloc, proc, graph, pc, leading, rows, found),
+        HazardsOr::Past(_) => Ok(()),
+        HazardsOr::Hazards(list) => add_threats(alloc, proc, graph, pc, leading, list, found),
     }
 }
 
@@ -93,9 +109,9 @@ fn add_region(
 /// ends outside the postcondition, however long it is.
 ///
 /// `graph`, `control` and `derivation` are those of `proc`, whose shape is reducible. `NoMemory` comes only where memory
-/// runs out. Each region's paths that stop badly are listed by `hazards`, and given up before those of the next; a threat
-/// costs one call of `least_input` and at most twice as many steps as there are lines, and any other path costs nothing
-/// beyond its share of the walk. The pieces of a run from one head to the next are those of the method of inductive assertions
+/// runs out. Each region's paths that stop badly are listed by `hazards`, with what it found of their literals, and given up
+/// before those of the next. Nothing is solved here: a threat that `hazards` found refuted costs nothing more, and any
+/// other one at most twice as many steps as there are lines. The pieces of a run from one head to the next are those of the method of inductive assertions
 /// (R. W. Floyd, Assigning meanings to programs, 1967).
 pub fn threats(
     alloc: Global,

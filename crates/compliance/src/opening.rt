@@ -1,27 +1,15 @@
-//! Which paths halt badly behind the opening of their region, told from their decisions.
+//! Which paths come to their end in the opening of their region, told from their decisions.
 ghost use Rattle.std.specs.Prelude.{◌≡◌, ℕ, Some, None, List, MatchOption, if◌then◌else◌};
 ghost use Rattle.il_core.specs.Checked.{procedure_of};
 ghost use Rattle.il_core.specs.Procedure.{Procedure};
-ghost use Rattle.il_core.specs.Run.{is_bad};
 ghost use Rattle.test_graph.specs.Decision.{Decision};
 ghost use Rattle.test_graph.specs.Lowered.{Unfolds, IsLowered};
 ghost use Rattle.region_paths.specs.Walk.{AreLines};
 ghost use Rattle.compliance.specs.Behind as behind;
 
-use il_core::{CheckedProc, Halt, Stop};
+use il_core::CheckedProc;
 use region_paths::first_node;
-use semantic_tables::Row;
 use test_graph::{TestGraph, TestNode};
-
-/// Whether a halt is a fault, a failed assertion or an end outside the postcondition.
-fn is_bad(halt: Halt) -> bool
-    ensures { result ≡ is_bad halt }
-{
-    match halt {
-        Halt::End | Halt::Outside => false,
-        Halt::FailedAssert(_) | Halt::FailedPost | Halt::DivZero(_) | Halt::Range(_) => true,
-    }
-}
 
 /// The node that follows a decision.
 fn side(truth: bool, met: usize, unmet: usize) -> usize
@@ -49,7 +37,7 @@ fn left_behind<'a>(graph: &TestGraph, id: usize, path: &'a [bool]) -> Option<&'a
 }
 
 /// Whether a path comes to its end in these lines, passed one after the other.
-fn ends_within(proc: &CheckedProc, graph: &TestGraph, lines: &[usize], path: &[bool]) -> bool
+pub fn ends_within(proc: &CheckedProc, graph: &TestGraph, lines: &[usize], path: &[bool]) -> bool
     requires lowered { IsLowered (procedure_of proc.now) graph.now }
     requires lines { AreLines (procedure_of proc.now) lines.now }
     ensures { result ≡ behind.ends_within (procedure_of proc.now) lines.now path.now }
@@ -62,22 +50,4 @@ fn ends_within(proc: &CheckedProc, graph: &TestGraph, lines: &[usize], path: &[b
         }
     }
     false
-}
-
-/// The halt of a row that halts badly behind the leading assertions of its region.
-pub fn bad_halt(proc: &CheckedProc, graph: &TestGraph, leading: &[usize], row: &Row) -> Option<Halt>
-    requires lowered { IsLowered (procedure_of proc.now) graph.now }
-    requires leading { AreLines (procedure_of proc.now) leading.now }
-    ensures { result ≡ behind.bad_halt (procedure_of proc.now) leading.now row.now.stop row.now.path }
-{
-    match row.stop {
-        Stop::Head(_) => None,
-        Stop::Halted(halt) => {
-            if is_bad(halt) && !ends_within(proc, graph, leading, row.path.as_slice()) {
-                Some(halt)
-            } else {
-                None
-            }
-        }
-    }
 }

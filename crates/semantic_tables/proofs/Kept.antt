@@ -1,5 +1,6 @@
--- The paths that are kept of a list, and the rows that they add.
+-- The paths that are kept of a list, and what they add.
 use Rattle.std.proofs.Common.{◌≡◌, inl, inr, refl, sym, ap, ◌∙◌, subst, Bool, true, false, List, [], ◌∷◌, ◌++◌, map, Option, append_assoc}
+use Rattle.std.specs.Prelude.{if◌then◌else◌}
 use Rattle.std.proofs.lemmas.List.{append-nil, map-append}
 use Rattle.il_core.specs.LineGraph.{IsIn}
 use Rattle.il_core.specs.declared.line.Stop.{Stop}
@@ -13,8 +14,10 @@ use Rattle.region_paths.specs.PlainRow.{assigned_under}
 use Rattle.region_paths.specs.Listing.{RegionPath, Ascend, ListsPaths}
 use Rattle.region_paths.specs.PathTree.{PathTree, fork, change, stops, begun, paths_down}
 use Rattle.semantic_tables.specs.Row.{NormalRow, row_of, comparison_form, forms_of}
-use Rattle.semantic_tables.specs.Walk.{AreKept, Adds, normal_behind, told_by, all_told}
-use Rattle.semantic_tables.specs.declared.row.Row.{Row}
+use Rattle.semantic_tables.specs.Hazards.{hazard_of}
+use Rattle.semantic_tables.specs.Walk.{AreKept, Adds, ended, normal_behind, all_told, is_hazards, rows_told, bad_hazards, hazards_told}
+use Rattle.semantic_tables.specs.declared.exploration.Query.{Query}
+use Rattle.semantic_tables.specs.declared.walking.Found.{Found}
 
 kept_none : (Out : RegionPath → Type 0) (all : List RegionPath) → ((r : RegionPath) → Out r) → AreKept Out all []
 kept_none Out [] h = refl
@@ -72,57 +75,63 @@ rows_same : (f : RegionPath → RegionPath) (g h : RegionPath → NormalRow) (k 
 rows_same f g h [] e = refl
 rows_same f g h (r ∷ k) e = ap (λ n. n ∷ map g (map f k)) (e r) ∙ ap (λ m. h r ∷ m) (rows_same f g h k e)
 
-told_both : (bad : Bool) (a b : List NormalRow) → all_told bad (a ++ b) ≡ all_told bad a ++ all_told bad b
-told_both bad [] b = refl
-told_both bad (n ∷ a) b = ap (λ ns. told_by bad n ++ ns) (told_both bad a b) ∙ sym (append_assoc (told_by bad n) (all_told bad a) (all_told bad b))
+told_both : {A : Type 0} (told : NormalRow → List A) (a b : List NormalRow) → all_told told (a ++ b) ≡ all_told told a ++ all_told told b
+told_both told [] b = refl
+told_both told (n ∷ a) b = ap (λ ns. told n ++ ns) (told_both told a b) ∙ sym (append_assoc (told n) (all_told told a) (all_told told b))
 
-module _ (Out : List LiteralForm → Type 0) (bad : Bool) (path : List Bool) (fs : List LiteralForm) where
-  -- the row of a path that ends here
-  abbrev pub ended : Stop → List Tree → NormalRow
-  ended end terms = record { path = path; literals = fs; stop = end; values = map norm terms }
+-- what is told of one path after what is told of others
+then_told : {A : Type 0} (told : NormalRow → List A) (f : RegionPath → NormalRow) (k l : List RegionPath) (old mid new : List A) → mid ≡ old ++ all_told told (map f k)
+    → new ≡ mid ++ all_told told (map f l) → new ≡ old ++ all_told told (map f (k ++ l))
+then_told told f k l old mid new g h =
+    h ∙ ap (λ m. m ++ all_told told (map f l)) g ∙ append_assoc old (all_told told (map f k)) (all_told told (map f l))
+    ∙ ap (λ m. old ++ m) (sym (told_both told (map f k) (map f l))) ∙ ap (λ m. old ++ all_told told m) (sym (map-append f k l))
 
+module _ (Out : List LiteralForm → Type 0) (query : Query) (path : List Bool) (fs : List LiteralForm) where
   -- nothing is added behind literals that are left out whatever follows
-  pub adds_none : (all : List RegionPath) (rows : List Row) → ((more : List LiteralForm) → Out (fs ++ more)) → Adds Out bad path fs all rows rows
-  adds_none all rows h = record {
+  pub adds_none : (all : List RegionPath) (found : Found) → ((more : List LiteralForm) → Out (fs ++ more)) → Adds Out query path fs all found found
+  adds_none all found h = record {
     kept = [];
     each = kept_none (λ r. Out (fs ++ forms_of r)) all (λ r. h (forms_of r));
-    rows = sym (append-nil (map row_of rows));
+    rows = sym (append-nil (map row_of found.rows));
+    hazards = sym (append-nil (map hazard_of found.hazards));
   }
 
   -- a path that ends here
-  pub adds_stop : (end : Stop) (terms : List Tree) (old new : List Row) → (Out fs → ⊥)
-      → map row_of new ≡ map row_of old ++ told_by bad (ended end terms) → Adds Out bad path fs (paths_down (stops end) terms) old new
-  adds_stop end terms old new some h = record {
+  pub adds_stop : (end : Stop) (terms : List Tree) (old new : Found) → (Out fs → ⊥) → map row_of new.rows ≡ map row_of old.rows ++ rows_told query (ended path fs end terms)
+      → map hazard_of new.hazards ≡ map hazard_of old.hazards ++ hazards_told query (ended path fs end terms) → Adds Out query path fs (paths_down (stops end) terms) old new
+  adds_stop end terms old new some h k = record {
     kept = paths_down (stops end) terms;
     each = inr ((λ o. some (subst Out (append-nil fs) o)), [], refl, refl);
-    rows = h ∙ ap (λ ns. map row_of old ++ ns) (ap (told_by bad) (sym same) ∙ sym (append-nil (told_by bad behind)));
+    rows = h ∙ ap (λ ns. map row_of old.rows ++ ns) (one_told (rows_told query));
+    hazards = k ∙ ap (λ ns. map hazard_of old.hazards ++ ns) (one_told (hazards_told query));
   }
     where
-      behind : NormalRow
-      behind = record { path = path ++ []; literals = fs ++ []; stop = end; values = map norm terms }
+      last : NormalRow
+      last = record { path = path ++ []; literals = fs ++ []; stop = end; values = map norm terms }
 
-      same : behind ≡ ended end terms
+      same : last ≡ ended path fs end terms
       same = rw (append-nil path, append-nil fs) refl
 
-  pub adds_both : (a b : List RegionPath) (old mid new : List Row) → Adds Out bad path fs a old mid → Adds Out bad path fs b mid new → Adds Out bad path fs (a ++ b) old new
+      one_told : {A : Type 0} (told : NormalRow → List A) → told (ended path fs end terms) ≡ told last ++ []
+      one_told told = ap told (sym same) ∙ sym (append-nil (told last))
+
+  pub adds_both : (a b : List RegionPath) (old mid new : Found) → Adds Out query path fs a old mid → Adds Out query path fs b mid new → Adds Out query path fs (a ++ b) old new
   adds_both a b old mid new g h = record {
     kept = g.kept ++ h.kept;
     each = kept_both (λ r. Out (fs ++ forms_of r)) a b g.kept h.kept g.each h.each;
-    rows = h.rows ∙ ap (λ m. m ++ all_told bad (map (normal_behind path fs) h.kept)) g.rows
-        ∙ append_assoc (map row_of old) (all_told bad (map (normal_behind path fs) g.kept)) (all_told bad (map (normal_behind path fs) h.kept))
-        ∙ ap (λ m. map row_of old ++ m) (sym (told_both bad (map (normal_behind path fs) g.kept) (map (normal_behind path fs) h.kept)))
-        ∙ ap (λ m. map row_of old ++ all_told bad m) (sym (map-append (normal_behind path fs) g.kept h.kept));
+    rows = then_told (rows_told query) (normal_behind path fs) g.kept h.kept (map row_of old.rows) (map row_of mid.rows) (map row_of new.rows) g.rows h.rows;
+    hazards = then_told (hazards_told query) (normal_behind path fs) g.kept h.kept (map hazard_of old.hazards) (map hazard_of mid.hazards) (map hazard_of new.hazards) g.hazards h.hazards;
   }
 
   -- the paths on one side of a decision
-  pub adds_side : (b : Bool) (c : Comparison) (all : List RegionPath) (old new : List Row) → Adds Out bad (path ++ b ∷ []) (fs ++ comparison_form c ∷ []) all old new
-      → Adds Out bad path fs (map (begun (b ∷ []) (c ∷ []) []) all) old new
+  pub adds_side : (b : Bool) (c : Comparison) (all : List RegionPath) (old new : Found) → Adds Out query (path ++ b ∷ []) (fs ++ comparison_form c ∷ []) all old new
+      → Adds Out query path fs (map (begun (b ∷ []) (c ∷ []) []) all) old new
   adds_side b c all old new h = record {
     kept = map (begun (b ∷ []) (c ∷ []) []) h.kept;
     each = kept_map (λ r. Out ((fs ++ comparison_form c ∷ []) ++ forms_of r)) (λ r. Out (fs ++ forms_of r)) (begun (b ∷ []) (c ∷ []) []) all h.kept
         (λ r o. subst Out (longer r) o) (λ r o. subst Out (sym (longer r)) o) h.each;
-    rows = h.rows ∙ ap (λ m. map row_of old ++ all_told bad m)
-        (sym (rows_same (begun (b ∷ []) (c ∷ []) []) (normal_behind path fs) (normal_behind (path ++ b ∷ []) (fs ++ comparison_form c ∷ [])) h.kept same));
+    rows = h.rows ∙ ap (λ m. map row_of old.rows ++ all_told (rows_told query) m) rows;
+    hazards = h.hazards ∙ ap (λ m. map hazard_of old.hazards ++ all_told (hazards_told query) m) rows;
   }
     where
       longer : (r : RegionPath) → (fs ++ comparison_form c ∷ []) ++ forms_of r ≡ fs ++ comparison_form c ∷ forms_of r
@@ -131,25 +140,48 @@ module _ (Out : List LiteralForm → Type 0) (bad : Bool) (path : List Bool) (fs
       same : (r : RegionPath) → normal_behind path fs (begun (b ∷ []) (c ∷ []) [] r) ≡ normal_behind (path ++ b ∷ []) (fs ++ comparison_form c ∷ []) r
       same r = rw (append_assoc path (b ∷ []) r.row.path, append_assoc fs (comparison_form c ∷ []) (forms_of r)) refl
 
+      rows : map (normal_behind (path ++ b ∷ []) (fs ++ comparison_form c ∷ [])) h.kept ≡ map (normal_behind path fs) (map (begun (b ∷ []) (c ∷ []) []) h.kept)
+      rows = sym (rows_same (begun (b ∷ []) (c ∷ []) []) (normal_behind path fs) (normal_behind (path ++ b ∷ []) (fs ++ comparison_form c ∷ [])) h.kept same)
+
   -- behind an assignment
-  pub adds_behind : (assigned : List Tree) (all : List RegionPath) (old new : List Row) → Adds Out bad path fs all old new → Adds Out bad path fs (map (begun [] [] assigned) all) old new
+  pub adds_behind : (assigned : List Tree) (all : List RegionPath) (old new : Found) → Adds Out query path fs all old new → Adds Out query path fs (map (begun [] [] assigned) all) old new
   adds_behind assigned all old new h = record {
     kept = map (begun [] [] assigned) h.kept;
     each = kept_map (λ r. Out (fs ++ forms_of r)) (λ r. Out (fs ++ forms_of r)) (begun [] [] assigned) all h.kept (λ r o. o) (λ r o. o) h.each;
-    rows = h.rows ∙ ap (λ m. map row_of old ++ all_told bad m) (sym (rows_same (begun [] [] assigned) (normal_behind path fs) (normal_behind path fs) h.kept (λ r. refl)));
+    rows = h.rows ∙ ap (λ m. map row_of old.rows ++ all_told (rows_told query) m) rows;
+    hazards = h.hazards ∙ ap (λ m. map hazard_of old.hazards ++ all_told (hazards_told query) m) rows;
   }
+    where
+      rows : map (normal_behind path fs) h.kept ≡ map (normal_behind path fs) (map (begun [] [] assigned) h.kept)
+      rows = sym (rows_same (begun [] [] assigned) (normal_behind path fs) (normal_behind path fs) h.kept (λ r. refl))
+
+-- a path that ends here, where hazards are asked for
+pub hazard_adds : (Out : List LiteralForm → Type 0) (query : Query) (path : List Bool) (fs : List LiteralForm) (end : Stop) (terms : List Tree) (old new : Found) → is_hazards query ≡ true → (Out fs → ⊥)
+    → new.rows ≡ old.rows → map hazard_of new.hazards ≡ map hazard_of old.hazards ++ bad_hazards (ended path fs end []) → Adds Out query path fs (paths_down (stops end) terms) old new
+hazard_adds Out query path fs end terms old new q some r h =
+    adds_stop Out query path fs end terms old new some
+    (ap (map row_of) r ∙ sym (append-nil (map row_of old.rows)) ∙ ap (λ (b : Bool). map row_of old.rows ++ (if b then [] else ended path fs end terms ∷ [])) (sym q))
+    (h ∙ ap (λ (b : Bool). map hazard_of old.hazards ++ (if b then bad_hazards (ended path fs end terms) else [])) (sym q))
+
+-- and where rows are
+pub row_adds : (Out : List LiteralForm → Type 0) (query : Query) (path : List Bool) (fs : List LiteralForm) (end : Stop) (terms : List Tree) (old new : Found) → is_hazards query ≡ false → (Out fs → ⊥)
+    → map row_of new.rows ≡ map row_of old.rows ++ ended path fs end terms ∷ [] → new.hazards ≡ old.hazards → Adds Out query path fs (paths_down (stops end) terms) old new
+row_adds Out query path fs end terms old new q some r h =
+    adds_stop Out query path fs end terms old new some
+    (r ∙ ap (λ (b : Bool). map row_of old.rows ++ (if b then [] else ended path fs end terms ∷ [])) (sym q))
+    (ap (map hazard_of) h ∙ sym (append-nil (map hazard_of old.hazards)) ∙ ap (λ (b : Bool). map hazard_of old.hazards ++ (if b then bad_hazards (ended path fs end terms) else [])) (sym q))
 
 -- both sides of a decision
-pub adds_fork : (Out : List LiteralForm → Type 0) (bad : Bool) (path : List Bool) (fs : List LiteralForm) (c : Comparison) (met unmet : PathTree) (terms : List Tree) (old mid new : List Row)
-    → Adds Out bad (path ++ true ∷ []) (fs ++ comparison_form (comparison_under terms c) ∷ []) (paths_down met terms) old mid
-    → Adds Out bad (path ++ false ∷ []) (fs ++ comparison_form (comparison_under terms (denied c)) ∷ []) (paths_down unmet terms) mid new
-    → Adds Out bad path fs (paths_down (fork c met unmet) terms) old new
-adds_fork Out bad path fs c met unmet terms old mid new g h =
-    adds_both Out bad path fs (map (begun (true ∷ []) (comparison_under terms c ∷ []) []) (paths_down met terms))
+pub adds_fork : (Out : List LiteralForm → Type 0) (query : Query) (path : List Bool) (fs : List LiteralForm) (c : Comparison) (met unmet : PathTree) (terms : List Tree) (old mid new : Found)
+    → Adds Out query (path ++ true ∷ []) (fs ++ comparison_form (comparison_under terms c) ∷ []) (paths_down met terms) old mid
+    → Adds Out query (path ++ false ∷ []) (fs ++ comparison_form (comparison_under terms (denied c)) ∷ []) (paths_down unmet terms) mid new
+    → Adds Out query path fs (paths_down (fork c met unmet) terms) old new
+adds_fork Out query path fs c met unmet terms old mid new g h =
+    adds_both Out query path fs (map (begun (true ∷ []) (comparison_under terms c ∷ []) []) (paths_down met terms))
     (map (begun (false ∷ []) (comparison_under terms (denied c) ∷ []) []) (paths_down unmet terms)) old mid new
-    (adds_side Out bad path fs true (comparison_under terms c) (paths_down met terms) old mid g)
-    (adds_side Out bad path fs false (comparison_under terms (denied c)) (paths_down unmet terms) mid new h)
+    (adds_side Out query path fs true (comparison_under terms c) (paths_down met terms) old mid g)
+    (adds_side Out query path fs false (comparison_under terms (denied c)) (paths_down unmet terms) mid new h)
 
-pub adds_change : (Out : List LiteralForm → Type 0) (bad : Bool) (path : List Bool) (fs : List LiteralForm) (c : Option Change) (rest : PathTree) (terms : List Tree) (old new : List Row)
-    → Adds Out bad path fs (paths_down rest (changed c terms)) old new → Adds Out bad path fs (paths_down (change c rest) terms) old new
-adds_change Out bad path fs c rest terms old new h = adds_behind Out bad path fs (assigned_under terms c) (paths_down rest (changed c terms)) old new h
+pub adds_change : (Out : List LiteralForm → Type 0) (query : Query) (path : List Bool) (fs : List LiteralForm) (c : Option Change) (rest : PathTree) (terms : List Tree) (old new : Found)
+    → Adds Out query path fs (paths_down rest (changed c terms)) old new → Adds Out query path fs (paths_down (change c rest) terms) old new
+adds_change Out query path fs c rest terms old new h = adds_behind Out query path fs (assigned_under terms c) (paths_down rest (changed c terms)) old new h

@@ -3,7 +3,8 @@ pub mod Rows
 pub mod Tables
 pub mod Kept
 pub mod Limits
-pub mod Courses
+pub mod Segments
 pub mod Environments
+pub mod Refuted
 pub mod Walks
 pub mod Made

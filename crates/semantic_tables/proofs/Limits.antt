@@ -24,7 +24,7 @@ use Rattle.region_paths.specs.Size.{greatest_by, path_nodes, path_weight, path_d
 use Rattle.region_paths.specs.declared.limit.Limit.TheVariants.{Rows, Nodes, Weight, Depth}
 use Rattle.path_inputs.proofs.Members.{in-left, in-right}
 use Rattle.semantic_tables.specs.Walk.{head_tree, behind, AssignsSmall, StaysSmall}
-use Rattle.semantic_tables.specs.declared.course.Course.TheVariants.{Region}
+use Rattle.semantic_tables.specs.declared.segment.Segment.TheVariants.{Region}
 
 abbrev IsSmallPath : RegionPath → Type 0
 IsSmallPath r = (path_weight r < 2 ^ 100) × (path_depth r ≤ 1000)

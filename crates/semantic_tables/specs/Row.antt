@@ -1,5 +1,5 @@
 -- The normal row of a path: its decisions, the forms of its literals, its stop, and the normal term of each place's value.
-use Rattle.std.specs.Prelude.{Bool, List, [], map}
+use Rattle.std.specs.Prelude.{Bool, List, map}
 use Rattle.il_core.specs.declared.line.Stop.{Stop}
 use Rattle.sym_terms.specs.Comparison.{Comparison}
 use Rattle.sym_simplify.specs.Form.{Form}
@@ -28,7 +28,3 @@ forms_of r = map comparison_form r.row.literals
 
 abbrev pub normal_row : RegionPath → NormalRow
 normal_row r = record { path = r.row.path; literals = forms_of r; stop = r.stop; values = map norm r.row.values }
-
--- the same without values
-abbrev pub bare_row : RegionPath → NormalRow
-bare_row r = record { path = r.row.path; literals = forms_of r; stop = r.stop; values = [] }

@@ -1,5 +1,5 @@
 //! The table and the long rows of a region.
-ghost use Rattle.std.specs.Prelude.{◌≡◌, ◌<◌, [], All, IfOk, length};
+ghost use Rattle.std.specs.Prelude.{◌≡◌, ◌<◌, [], IfOk, length};
 ghost use Rattle.il_core.specs.LineGraph.{IsIn};
 ghost use Rattle.il_core.specs.Checked.{procedure_of};
 ghost use Rattle.flow_graph.specs.Graph.{graph_of};
@@ -13,55 +13,104 @@ ghost use Rattle.region_paths.specs.PathTree.{paths_down};
 ghost use Rattle.region_paths.specs.Region.{first_lines};
 ghost use Rattle.region_paths.specs.Laws.{BeginsRegion};
 ghost use Rattle.semantic_tables.specs.Table.{IsTable, IsLongTable};
-ghost use Rattle.semantic_tables.specs.Hazards.{AreHazards};
+ghost use Rattle.semantic_tables.specs.Hazards.{AreHazards, HaveLeast};
 ghost use Rattle.semantic_tables.specs.OneRow.{OneRowEach, OneLongRowEach};
-ghost use Rattle.semantic_tables.specs.Fit.{HasSoundLiterals, HaveSoundLiterals};
-ghost use Rattle.semantic_tables.specs.declared.course.Course.TheVariants.{Region};
-ghost use Rattle.semantic_tables.specs.Walk.{IsGround, ground_procedure, tree_from, StaysSmall, LeftOut, Adds, IsTableFor};
+ghost use Rattle.semantic_tables.specs.Fit.{HaveSoundLiterals};
+ghost use Rattle.semantic_tables.specs.declared.segment.Segment.TheVariants.{Region};
+ghost use Rattle.semantic_tables.specs.Walk.{IsExploration, explored_procedure, tree_from, StaysSmall, LeftOut, AreSound, Adds, nothing, IsTableFor, IsExploredFor, IsSoundWithin};
 
-use crate::course::{Course, Ground};
 use crate::environment::own_terms;
+use crate::exploration::{Exploration, Query};
+use crate::hazard::HazardsOr;
 use crate::laws::{inputs_have_one_long_row, inputs_have_one_row};
 use crate::prefix::Prefix;
-use crate::row::{Row, TableOr};
-use crate::walking::{is_open, walk};
+use crate::row::TableOr;
+use crate::segment::Segment;
+use crate::walking::{Found, is_open, walk};
 use control_flow::Control;
 use il_core::{CheckedProc, List, NoMemory};
 use interval_reduce::Derivation;
 use path_inputs::refuted_stays_refuted;
-use region_paths::{first_node, one_listing, paths_are_listed, size};
+use region_paths::{Limit, first_node, one_listing, paths_are_listed, size};
 use std::alloc::Global;
 use sym_simplify::Forms;
 use test_graph::TestGraph;
 
-/// The rows of a region of which each comparison and each assigned term is within the limits, and no path has more lines
-/// than `room` says.
-fn rows_of(ground: Ground<'_>, room: usize) -> Result<List<Row>, NoMemory>
-    requires ground { IsGround ground }
-    requires line { ground.line < length (ground_procedure ground).lines }
-    requires small { StaysSmall (tree_from ground (Region room) (decision_at (ground_procedure ground) ground.line)) (own_values (length ground.proc.now.places)) }
-    ensures rows { IfOk result (Adds (LeftOut ground.entry) ground.entry.bad [] [] (paths_down (tree_from ground.entry (Region room) (decision_at (ground_procedure ground.entry) ground.entry.line)) (own_values (length ground.entry.proc.now.places))) []) }
-    ensures sound { IfOk result (All (HasSoundLiterals (length ground.entry.proc.now.places))) }
+/// What is found of a region, or the first limit that it passes.
+enum Explored {
+    /// All of it.
+    Within(Found),
+    /// The region is too large.
+    Past(Limit),
+}
+
+/// What is asked for of a region of which each comparison and each assigned term is within the limits, and no path has
+/// more lines than `room` says.
+fn found_in(exploration: Exploration<'_>, room: usize) -> Result<Found, NoMemory>
+    requires exploration { IsExploration exploration }
+    requires line { exploration.line < length (explored_procedure exploration).lines }
+    requires small { StaysSmall (tree_from exploration (Region room) (decision_at (explored_procedure exploration) exploration.line)) (own_values (length exploration.proc.now.places)) }
+    ensures adds { IfOk result (Adds (LeftOut exploration.entry) exploration.entry.query [] [] (paths_down (tree_from exploration.entry (Region room) (decision_at (explored_procedure exploration.entry) exploration.entry.line)) (own_values (length exploration.entry.proc.now.places))) nothing) }
+    ensures sound { IfOk result (AreSound exploration.entry) }
 {
     refuted_stays_refuted();
-    let mut forms = Forms::new(ground.alloc)?;
-    let mut env = own_terms(ground.alloc, &mut forms, ground.proc.places().len())?;
-    let mut prefix = Prefix::new(ground.alloc);
-    let mut rows = List::new(ground.alloc);
-    if is_open(ground, &prefix.literals)? {
-        let first = first_node(ground.proc, ground.graph, ground.line);
-        let course = Course::Region(room);
+    let mut forms = Forms::new(exploration.alloc)?;
+    let places = exploration.proc.places().len();
+    let mut env = own_terms(exploration.alloc, &mut forms, places)?;
+    let mut prefix = Prefix::new(exploration.alloc);
+    let mut found = Found {
+        rows: List::new(exploration.alloc),
+        hazards: List::new(exploration.alloc),
+    };
+    if is_open(exploration, &mut prefix)? {
+        let first = first_node(exploration.proc, exploration.graph, exploration.line);
+        let segment = Segment::Region(room);
         walk(
-            ground,
+            exploration,
             first,
-            course,
+            segment,
             &mut forms,
             &mut env,
             &mut prefix,
-            &mut rows,
+            &mut found,
         )?;
     }
-    Ok(rows)
+    Ok(found)
+}
+
+/// What is asked for of a region, or the first limit that it passes.
+fn explore(
+    alloc: Global,
+    proc: &CheckedProc,
+    graph: &TestGraph,
+    control: &Control,
+    pc: usize,
+    query: Query,
+) -> Result<Explored, NoMemory>
+    requires lowered { IsLowered (procedure_of proc.now) graph.now }
+    requires control { IsControlOf (graph_of (procedure_of proc.now)) control.now }
+    requires shape { control.now.shape ≡ Reducible }
+    requires first { IsIn (first_lines control.now.loops) pc }
+    ensures begins { IfOk result (λ _. BeginsRegion (procedure_of proc.now) control.now.loops pc) }
+    ensures found { IfOk result (IsExploredFor query (procedure_of proc.now) control.now.loops pc) }
+    ensures sound { IfOk result (IsSoundWithin proc.now.places pc) }
+{
+    paths_are_listed();
+    one_listing();
+    let room = proc.lines().len();
+    if let Some(limit) = size(alloc, proc, graph, control, pc)? {
+        return Ok(Explored::Past(limit));
+    }
+    let loops = control.loops.as_slice();
+    let exploration = Exploration {
+        alloc,
+        proc,
+        graph,
+        loops,
+        line: pc,
+        query,
+    };
+    Ok(Explored::Within(found_in(exploration, room)?))
 }
 
 /// The rows of a region, or the first limit that it passes.
@@ -71,34 +120,20 @@ fn rows_within(
     graph: &TestGraph,
     control: &Control,
     pc: usize,
-    long: bool,
-    bad: bool,
+    query: Query,
 ) -> Result<TableOr, NoMemory>
     requires lowered { IsLowered (procedure_of proc.now) graph.now }
     requires control { IsControlOf (graph_of (procedure_of proc.now)) control.now }
     requires shape { control.now.shape ≡ Reducible }
     requires first { IsIn (first_lines control.now.loops) pc }
     ensures begins { IfOk result (λ _. BeginsRegion (procedure_of proc.now) control.now.loops pc) }
-    ensures rows { IfOk result (IsTableFor long bad (procedure_of proc.now) control.now.loops pc) }
+    ensures rows { IfOk result (IsTableFor query (procedure_of proc.now) control.now.loops pc) }
     ensures fits { IfOk result (HaveSoundLiterals (length proc.now.places)) }
 {
-    paths_are_listed();
-    one_listing();
-    let room = proc.lines().len();
-    if let Some(limit) = size(alloc, proc, graph, control, pc)? {
-        return Ok(TableOr::Past(limit));
+    match explore(alloc, proc, graph, control, pc, query)? {
+        Explored::Within(found) => Ok(TableOr::Table(found.rows)),
+        Explored::Past(limit) => Ok(TableOr::Past(limit)),
     }
-    let loops = control.loops.as_slice();
-    let ground = Ground {
-        alloc,
-        proc,
-        graph,
-        loops,
-        line: pc,
-        long,
-        bad,
-    };
-    Ok(TableOr::Table(rows_of(ground, room)?))
 }
 
 /// The table of the region that begins at line `pc`: for each of its paths that is not plainly refuted, in the order of
@@ -135,7 +170,7 @@ pub fn table(
     ensures fits { IfOk result (HaveSoundLiterals (length proc.now.places)) }
 {
     inputs_have_one_row();
-    rows_within(alloc, proc, graph, control, pc, false, false)
+    rows_within(alloc, proc, graph, control, pc, Query::Table)
 }
 
 /// The rows of all long paths of the region that begins at line `pc`, in the order of decisions, true first: these go on
@@ -162,15 +197,17 @@ pub fn long_rows(
     ensures fits { IfOk result (HaveSoundLiterals (length proc.now.places)) }
 {
     inputs_have_one_long_row();
-    rows_within(alloc, proc, graph, control, pc, true, false)
+    rows_within(alloc, proc, graph, control, pc, Query::LongRows)
 }
 
-/// The hazards of the region that begins at line `pc`: those of its long rows that stop at a failed assertion, a failed
-/// postcondition, a division by zero or a value out of range, in order, without values. The literals are such as
-/// `least_input` asks for.
+/// The hazards of the region that begins at line `pc`: those of its long paths that stop at a failed assertion, a failed
+/// postcondition, a division by zero or a value out of range, in order, each with the least input of its literals, or
+/// with none exactly where they are plainly refuted. The literals are such as `least_input` asks for.
 ///
 /// The conditions, the answers and the stack are those of `long_rows`. It takes the same walk, but a path that does not
-/// stop badly costs nothing beyond its share of the walk, and no value is brought to its normal term.
+/// stop badly costs nothing beyond its share of the walk, and no value is brought to its normal term. What is found refuted
+/// is handed down: a hazard costs one solving by `least_input`, or none where a prefix of its decisions is known to be
+/// refuted; and no prefix is solved twice.
 pub fn hazards(
     alloc: Global,
     proc: &CheckedProc,
@@ -178,14 +215,17 @@ pub fn hazards(
     control: &Control,
     derivation: &Derivation,
     pc: usize,
-) -> Result<TableOr, NoMemory>
+) -> Result<HazardsOr, NoMemory>
     requires lowered { IsLowered (procedure_of proc.now) graph.now }
     requires control { IsControlOf (graph_of (procedure_of proc.now)) control.now }
     requires shape { control.now.shape ≡ Reducible }
     requires derivation { IsDerivationOf (graph_of (procedure_of proc.now)) control.now.shape derivation.now }
     requires first { IsIn (first_lines control.now.loops) pc }
-    ensures rows { IfOk result (AreHazards (procedure_of proc.now) control.now.loops pc) }
-    ensures fits { IfOk result (HaveSoundLiterals (length proc.now.places)) }
+    ensures hazards { IfOk result (AreHazards (procedure_of proc.now) control.now.loops pc) }
+    ensures least { IfOk result (HaveLeast proc.now.places pc) }
 {
-    rows_within(alloc, proc, graph, control, pc, true, true)
+    match explore(alloc, proc, graph, control, pc, Query::Hazards)? {
+        Explored::Within(found) => Ok(HazardsOr::Hazards(found.hazards)),
+        Explored::Past(limit) => Ok(HazardsOr::Past(limit)),
+    }
 }

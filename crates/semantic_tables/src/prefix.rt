@@ -1,5 +1,5 @@
 //! The decisions and the literals of a path as far as a walk has come.
-ghost use Rattle.std.specs.Prelude.{◌≡◌, ◌∷◌, ◌++◌, [], length, map, All, IfOk};
+ghost use Rattle.std.specs.Prelude.{◌≡◌, ◌≤◌, ℕ, Some, length, map, All, IfOk};
 ghost use Rattle.sym_terms.specs.Comparison.{denied, denied_relation};
 ghost use Rattle.sym_terms.specs.Grown.{Keeps};
 ghost use Rattle.sym_terms.specs.Nodes.{terms_of};
@@ -9,10 +9,14 @@ ghost use Rattle.sym_simplify.specs.Held.{form_of};
 ghost use Rattle.sym_simplify.specs.Literal.{literal_form_of};
 ghost use Rattle.semantic_tables.specs.Row.{row_of, comparison_form};
 ghost use Rattle.semantic_tables.specs.Fit.{HasSoundLiterals};
-ghost use Rattle.semantic_tables.specs.Walk.{comparison_at, IsEnvironment, IsCompared, IsPrefix, prefix_forms, values_told};
+ghost use Rattle.semantic_tables.specs.Hazards.{hazard_of, IsLeastOf, HasLeast};
+ghost use Rattle.il_core.specs.declared.line.Stop.TheVariants.{Halted};
+ghost use Rattle.semantic_tables.specs.Walk.{comparison_at, IsEnvironment, IsCompared, IsPrefix, prefix_forms};
 
+use crate::exploration::Exploration;
+use crate::hazard::Hazard;
 use crate::row::Row;
-use il_core::{List, NoMemory, Relation, Stop};
+use il_core::{Halt, List, NoMemory, Relation, Stop};
 use std::alloc::Global;
 use sym_simplify::{Forms, LitForm, Normal};
 use sym_terms::TermId;
@@ -37,6 +41,10 @@ pub struct Prefix {
     pub sides: Vec<Sides>,
     /// The forms of the literals.
     pub literals: Vec<LitForm>,
+    /// How many of the first literals are known to be plainly refuted, if any are; all of them then are, too.
+    pub refuted: Option<usize>,
+    /// How many of the first literals are known not to be.
+    pub feasible: usize,
 }
 
 /// The relation that holds of two numbers exactly where the given one does not.
@@ -73,8 +81,18 @@ impl Sides {
     }
 }
 
+/// A count, where it is at most as given.
+fn at_most(count: Option<usize>, most: usize) -> Option<usize>
+    ensures { (n : ℕ) → result ≡ Some n → (count ≡ Some n) × (n ≤ most) }
+{
+    match count {
+        Some(given) => { if given <= most { Some(given) } else { None } }
+        None => None,
+    }
+}
+
 impl Prefix {
-    ghost use Rattle.std.specs.Prelude.{◌≡◌, ◌<◌, ◌∷◌, ◌++◌, ◌-◌, [], length, take, IfOk};
+    ghost use Rattle.std.specs.Prelude.{◌≡◌, ◌<◌, ◌≤◌, ◌∷◌, ◌++◌, ◌-◌, ℕ, Some, None, [], length, take, IfOk};
     ghost use Rattle.sym_terms.specs.Grown.{Keeps};
     ghost use Rattle.semantic_tables.specs.Row.{comparison_form};
     ghost use Rattle.semantic_tables.specs.Walk.{comparison_at, ComparesSmall, IsOneMore};
@@ -84,11 +102,14 @@ impl Prefix {
         ensures path { result.path.items ≡ [] }
         ensures sides { result.sides.items ≡ [] }
         ensures literals { result.literals.items ≡ [] }
+        ensures refuted { result.refuted ≡ None }
     {
         Prefix {
             path: Vec::new(alloc),
             sides: Vec::new(alloc),
             literals: Vec::new(alloc),
+            refuted: None,
+            feasible: 0,
         }
     }
 
@@ -100,6 +121,7 @@ impl Prefix {
         ensures path { IfOk result (λ _. self.new.path.items ≡ self.old.path.items ++ met ∷ []) }
         ensures sides { IfOk result (λ _. self.new.sides.items ≡ self.old.sides.items ++ sides ∷ []) }
         ensures literals { IfOk result (λ _. IsOneMore (comparison_form (comparison_at forms.old.terms sides)) self.old.literals.items self.new.literals.items) }
+        ensures refuted { self.new.refuted ≡ self.old.refuted }
         ensures terms { forms.new.terms ≡ forms.old.terms }
     {
         let literal = forms.literal(sides.relation, sides.left, sides.right)?;
@@ -109,15 +131,18 @@ impl Prefix {
         Ok(())
     }
 
-    /// Takes the last decision back.
+    /// Takes the last decision back, and what is known of it.
     pub fn turn_back(&mut self)
         ensures path { self.new.path.items ≡ take (length self.old.path.items - 1) self.old.path.items }
         ensures sides { self.new.sides.items ≡ take (length self.old.sides.items - 1) self.old.sides.items }
         ensures literals { self.new.literals.items ≡ take (length self.old.literals.items - 1) self.old.literals.items }
+        ensures refuted { (count : ℕ) → self.new.refuted ≡ Some count → (self.old.refuted ≡ Some count) × (count ≤ length self.new.literals.items) }
     {
         self.path.pop();
         self.sides.pop();
         self.literals.pop();
+        self.feasible = self.feasible.min(self.literals.len());
+        self.refuted = at_most(self.refuted, self.literals.len());
     }
 }
 
@@ -157,35 +182,17 @@ fn values_of(alloc: Global, forms: &mut Forms, env: &[TermId]) -> Result<List<No
     Ok(values)
 }
 
-/// The normal terms of the numbered terms, or none where none are asked for.
-fn values_asked(
-    alloc: Global,
-    bare: bool,
-    forms: &mut Forms,
-    env: &[TermId],
-) -> Result<List<Normal>, NoMemory>
-    requires { IsEnvironment (length env.now) forms.old.terms env.now }
-    ensures values { IfOk result (λ l. map form_of l ≡ values_told bare (map norm (terms_of forms.old.terms env.now))) }
-    ensures terms { forms.new.terms ≡ forms.old.terms }
-{
-    if bare {
-        return Ok(List::new(alloc));
-    }
-    values_of(alloc, forms, env)
-}
-
-/// The row of a path that ends here, without values where it is to be bare.
+/// The row of a path that ends here.
 pub fn row_at(
     alloc: Global,
     forms: &mut Forms,
     env: &[TermId],
     prefix: &Prefix,
     stop: Stop,
-    bare: bool,
 ) -> Result<Row, NoMemory>
     requires env { IsEnvironment (length env.now) forms.old.terms env.now }
     requires prefix { IsPrefix (length env.now) forms.old.terms prefix.now }
-    ensures row { IfOk result (λ r. row_of r ≡ record { path = prefix.now.path.items; literals = prefix_forms prefix.now; stop = stop; values = values_told bare (map norm (terms_of forms.old.terms env.now)) }) }
+    ensures row { IfOk result (λ r. row_of r ≡ record { path = prefix.now.path.items; literals = prefix_forms prefix.now; stop = stop; values = map norm (terms_of forms.old.terms env.now) }) }
     ensures sound { IfOk result (HasSoundLiterals (length env.now)) }
     ensures terms { forms.new.terms ≡ forms.old.terms }
 {
@@ -193,6 +200,28 @@ pub fn row_at(
         path: path_of(alloc, &prefix.path)?,
         literals: literals_of(alloc, forms, &prefix.sides)?,
         stop,
-        values: values_asked(alloc, bare, forms, env)?,
+        values: values_of(alloc, forms, env)?,
+    })
+}
+
+/// The hazard of a path that ends here, whose least input is given.
+pub fn hazard_at(
+    exploration: Exploration<'_>,
+    forms: &mut Forms,
+    prefix: &Prefix,
+    halt: Halt,
+    least: Option<List<i64>>,
+) -> Result<Hazard, NoMemory>
+    requires prefix { IsPrefix (length exploration.proc.now.places) forms.old.terms prefix.now }
+    requires least { IsLeastOf exploration.proc.now.places exploration.line (prefix_forms prefix.now) least }
+    ensures hazard { IfOk result (λ h. hazard_of h ≡ record { path = prefix.now.path.items; literals = prefix_forms prefix.now; stop = Halted halt }) }
+    ensures least { IfOk result (HasLeast exploration.entry.proc.now.places exploration.entry.line) }
+    ensures terms { forms.new.terms ≡ forms.old.terms }
+{
+    Ok(Hazard {
+        path: path_of(exploration.alloc, &prefix.path)?,
+        literals: literals_of(exploration.alloc, forms, &prefix.sides)?,
+        halt,
+        least,
     })
 }

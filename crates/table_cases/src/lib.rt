@@ -1,4 +1,4 @@
-//! Worked cases of tables and long rows, tried through their public calls on procedures that are read from texts.
+//! Worked cases of tables, long rows and hazards, tried through their public calls on procedures that are read from texts.
 //! Nothing but tests stands here, so that no layer is proved with its tests.
 #![tactic(auto)]
 

@@ -1,4 +1,4 @@
-//! The tables of the regions of a text's first procedure.
+//! The tables and hazards of the regions of a text's first procedure.
 ghost use Rattle.std.specs.Prelude.{◌≡◌, IfOk};
 ghost use Rattle.il_core.specs.Checked.{procedure_of};
 ghost use Rattle.il_core.specs.LineGraph.{IsIn};
@@ -12,24 +12,35 @@ ghost use Rattle.region_paths.specs.Region.{first_lines};
 use acceptance::accept;
 use control_flow::{Control, LoopInfo, Shape, control_of};
 use flow_graph::build;
-use il_core::{CheckedProc, NoMemory, TextEnd};
+use il_core::{CheckedProc, CheckedText, NoMemory, TextEnd};
 use interval_reduce::{Derivation, derive};
-use semantic_tables::{TableOr, long_rows, table};
+use semantic_tables::{HazardsOr, TableOr, hazards, long_rows, table};
 use std::alloc::Global;
 use std::test::Fail;
 use test_graph::{TestGraph, lower};
 
-/// Which rows of a region are asked for.
+/// What of a region is asked for.
 #[derive(Clone, Copy)]
 pub enum Asked {
-    /// Those of its table.
+    /// The rows of its table.
     Table,
-    /// Those of its long paths.
+    /// The rows of its long paths.
     Long,
+    /// Its hazards.
+    Hazards,
+}
+
+/// What is found of a region.
+#[derive(Drop)]
+pub enum Found {
+    /// Rows.
+    Rows(TableOr),
+    /// Hazards.
+    Hazards(HazardsOr),
 }
 
 /// The first line of a region: of region 0 it is line 0, and of each other one the head of a loop.
-fn first_line(loops: &[LoopInfo], region: usize) -> Result<usize, Fail>
+pub fn first_line(loops: &[LoopInfo], region: usize) -> Result<usize, Fail>
     ensures { IfOk result (IsIn (first_lines loops.now)) }
 {
     if region == 0 {
@@ -41,8 +52,8 @@ fn first_line(loops: &[LoopInfo], region: usize) -> Result<usize, Fail>
     }
 }
 
-/// The rows of a region that are asked for.
-fn rows_at(
+/// What of a region is asked for.
+fn found_at(
     alloc: Global,
     proc: &CheckedProc,
     graph: &TestGraph,
@@ -50,7 +61,7 @@ fn rows_at(
     derivation: &Derivation,
     pc: usize,
     asked: Asked,
-) -> Result<TableOr, NoMemory>
+) -> Result<Found, NoMemory>
     requires lowered { IsLowered (procedure_of proc.now) graph.now }
     requires control { IsControlOf (graph_of (procedure_of proc.now)) control.now }
     requires shape { control.now.shape ≡ Reducible }
@@ -58,40 +69,42 @@ fn rows_at(
     requires first { IsIn (first_lines control.now.loops) pc }
 {
     match asked {
-        Asked::Table => table(alloc, proc, graph, control, derivation, pc),
-        Asked::Long => long_rows(alloc, proc, graph, control, derivation, pc),
+        Asked::Table => Ok(Found::Rows(table(alloc, proc, graph, control, derivation, pc)?)),
+        Asked::Long => Ok(Found::Rows(long_rows(alloc, proc, graph, control, derivation, pc)?)),
+        Asked::Hazards => Ok(Found::Hazards(hazards(alloc, proc, graph, control, derivation, pc)?)),
     }
 }
 
-/// The rows of a region of a procedure, which is reducible.
-fn rows_in(
-    alloc: Global,
-    proc: &CheckedProc,
-    region: usize,
-    asked: Asked,
-) -> Result<TableOr, Fail> {
+/// What is asked for of a region of a procedure, which is reducible.
+fn found_in(alloc: Global, proc: &CheckedProc, region: usize, asked: Asked) -> Result<Found, Fail> {
     let graph = build(alloc, proc)?;
     let control = control_of(alloc, &graph)?;
     let derivation = derive(alloc, &graph, &control)?;
     let lowered = lower(alloc, proc)?;
     let pc = first_line(control.loops.as_slice(), region)?;
     match &control.shape {
-        Shape::Reducible => Ok(rows_at(alloc, proc, &lowered, &control, &derivation, pc, asked)?),
+        Shape::Reducible => Ok(found_at(alloc, proc, &lowered, &control, &derivation, pc, asked)?),
         Shape::TwoEntries(_) => Err(Fail::from("not reducible")),
     }
 }
 
-/// The rows of a region of the first procedure of a text.
-pub fn rows_of(alloc: Global, text: &[u8], region: usize, asked: Asked) -> Result<TableOr, Fail> {
+/// A text that is accepted.
+pub fn checked(alloc: Global, text: &[u8]) -> Result<CheckedText, Fail> {
     if text.len() > 1_048_576 {
         return Err(Fail::from("too long"));
     }
     match accept(alloc, text) {
-        Ok(checked) => match checked.procs().get(0) {
-            Some(proc) => rows_in(alloc, proc, region, asked),
-            None => Err(Fail::from("no procedure")),
-        },
+        Ok(checked) => Ok(checked),
         Err(TextEnd::Refused(_)) => Err(Fail::from("refused")),
         Err(TextEnd::NoMemory) => Err(Fail::from("out of memory")),
+    }
+}
+
+/// What is asked for of a region of the first procedure of a text.
+pub fn found_of(alloc: Global, text: &[u8], region: usize, asked: Asked) -> Result<Found, Fail> {
+    let text = checked(alloc, text)?;
+    match text.procs().get(0) {
+        Some(proc) => found_in(alloc, proc, region, asked),
+        None => Err(Fail::from("no procedure")),
     }
 }

@@ -1,6 +1,8 @@
-//! Rows as text: the decisions, the literals, the stop, and each value that is not the place's own.
+//! Rows as text: the decisions, the literals, the stop, and each value that is not the place's own. Hazards as text: the
+//! decisions, the literals, the halt, and the least input.
+use crate::regions::Found;
 use il_core::{List, Relation};
-use semantic_tables::{Row, TableOr};
+use semantic_tables::{Hazard, HazardsOr, Row, TableOr};
 use std::alloc::{AllocError, Global};
 use sym_simplify::{Atom, LitForm, Normal, Part};
 
@@ -136,10 +138,52 @@ fn rows_text(alloc: Global, rows: &List<Row>) -> Result<String, AllocError> {
     Ok(text)
 }
 
-/// A table, a line for each row, or the limit that its region passes.
-pub fn table_text(alloc: Global, table: &TableOr) -> Result<String, AllocError> {
+fn least_text(alloc: Global, least: &Option<List<i64>>) -> Result<String, AllocError> {
+    match least {
+        Some(input) => {
+            let mut text = format!(in alloc; "LEAST")?;
+            for value in input.as_slice() {
+                let value = format!(in alloc; " {value}")?;
+                text.push_str(value.as_str())?;
+            }
+            Ok(text)
+        }
+        None => format!(in alloc; "REFUTED"),
+    }
+}
+
+fn hazard_text(alloc: Global, hazard: &Hazard) -> Result<String, AllocError> {
+    let path = path_text(alloc, hazard.path.as_slice())?;
+    let literals = literals_text(alloc, hazard.literals.as_slice())?;
+    let least = least_text(alloc, &hazard.least)?;
+    format!(in alloc; "{path}: {literals}{:?}; {least}", hazard.halt)
+}
+
+fn hazards_text(alloc: Global, hazards: &HazardsOr) -> Result<String, AllocError> {
+    match hazards {
+        HazardsOr::Hazards(list) => {
+            let mut text = String::new(alloc);
+            for hazard in list.as_slice() {
+                text.push_str(hazard_text(alloc, hazard)?.as_str())?;
+                text.push_str("\n")?;
+            }
+            Ok(text)
+        }
+        HazardsOr::Past(limit) => format!(in alloc; "PAST {limit:?}\n"),
+    }
+}
+
+fn table_text(alloc: Global, table: &TableOr) -> Result<String, AllocError> {
     match table {
         TableOr::Table(rows) => rows_text(alloc, rows),
         TableOr::Past(limit) => format!(in alloc; "PAST {limit:?}\n"),
+    }
+}
+
+/// A line for each row or hazard of a region, or the limit that it passes.
+pub fn found_text(alloc: Global, found: &Found) -> Result<String, AllocError> {
+    match found {
+        Found::Rows(table) => table_text(alloc, table),
+        Found::Hazards(hazards) => hazards_text(alloc, hazards),
     }
 }

@@ -1,6 +1,6 @@
 //! How many rows regions of some size have, and where there are too many.
-use crate::regions::{Asked, rows_of};
-use semantic_tables::TableOr;
+use crate::regions::{Asked, Found, found_of};
+use semantic_tables::{HazardsOr, TableOr};
 use std::alloc::{AllocError, Global};
 use std::test::Fail;
 
@@ -46,29 +46,33 @@ fn lines_of(alloc: Global, count: u64, line: &str, last: &str) -> Result<String,
     Ok(text)
 }
 
-/// How many rows there are, or the limit that the region passes.
-fn count_text(alloc: Global, table: &TableOr) -> Result<String, AllocError> {
-    match table {
-        TableOr::Table(rows) => format!(in alloc; "{}", rows.len()),
-        TableOr::Past(limit) => format!(in alloc; "{limit:?}"),
+/// How many rows or hazards there are, or the limit that the region passes.
+fn count_text(alloc: Global, found: &Found) -> Result<String, AllocError> {
+    match found {
+        Found::Rows(TableOr::Table(rows)) => format!(in alloc; "{}", rows.len()),
+        Found::Hazards(HazardsOr::Hazards(list)) => format!(in alloc; "{}", list.len()),
+        Found::Rows(TableOr::Past(limit)) | Found::Hazards(HazardsOr::Past(limit)) => {
+            format!(in alloc; "{limit:?}")
+        }
     }
 }
 
-/// How many rows the first region of a text has.
+/// How many rows or hazards the first region of a text has.
 fn count_of(alloc: Global, text: &str, asked: Asked) -> Result<String, Fail> {
-    let table = rows_of(alloc, text.as_bytes(), 0, asked)?;
-    Ok(count_text(alloc, &table)?)
+    let found = found_of(alloc, text.as_bytes(), 0, asked)?;
+    Ok(count_text(alloc, &found)?)
 }
 
 #[test]
 fn tests_in_a_row_have_one_row_more(rt: HostRuntime) -> Result<(), Fail> {
-    let cases: [(u64, Asked, &str); 6] = [
+    let cases: [(u64, Asked, &str); 7] = [
         (12, Asked::Table, "13"),
         (12, Asked::Long, "4096"),
         (13, Asked::Table, "14"),
         (14, Asked::Table, "15"),
         (14, Asked::Long, "16384"),
         (15, Asked::Table, "Rows"),
+        (15, Asked::Hazards, "Rows"),
     ];
     for (count, asked, wanted) in cases.iter() {
         let text = tests_of(rt.alloc(), *count)?;

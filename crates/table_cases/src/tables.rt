@@ -1,11 +1,11 @@
-//! The rows of worked texts.
-use crate::regions::{Asked, rows_of};
-use crate::row_text::table_text;
+//! The rows and hazards of worked texts.
+use crate::regions::{Asked, found_of};
+use crate::row_text::found_text;
 use std::alloc::Global;
 use std::process::Abort;
 use std::test::Fail;
 
-/// A region of a text, which of its rows are asked for, and what they are. The places stand by number in the order of
+/// A region of a text, what of it is asked for, and what that is. The places stand by number in the order of
 /// their declarations, and then the OLD copies.
 type Case<'a> = (usize, Asked, &'a str);
 
@@ -26,6 +26,10 @@ r := 0; IF a = 1 AND 10 DIV b > 2; r := 1; ENDIF; ENDPROC; FINISH;";
 /// A test whose true side is met by no input.
 const REFUTED: &[u8] = b"TITLE t; PROC p; IN x : 0 .. 9; LOCAL y : 0 .. 1; PRE TRUE; POST TRUE; \
 IF x > 5; IF x < 3; y := 1; ENDIF; ENDIF; ENDPROC; FINISH;";
+
+/// Assertions that fail behind a test whose true side is met by no input, and on its other side.
+const BELOW: &[u8] = b"TITLE t; PROC p; IN x : 0 .. 9; PRE TRUE; POST TRUE; \
+IF x > 5; IF x < 3; ASSERT x = 1; ASSERT x = 2; ENDIF; ASSERT x < 9; ENDIF; ENDPROC; FINISH;";
 
 /// A product, compared twice in the same way.
 const PRODUCT: &[u8] = b"TITLE t; PROC p; IN x : 0 .. 9; IN y : 0 .. 9; PRE TRUE; POST TRUE; \
@@ -50,11 +54,11 @@ const TURNS: &[u8] =
     b"TITLE t; PROC p; IN c : 0 .. 9; INOUT x : 0 .. 9; INOUT y : 0 .. 9; PRE TRUE; POST TRUE; \
 IF c = 1; x := 3; ELSE; y := x; ENDIF; IF x <= y; SKIP; ENDIF; ENDPROC; FINISH;";
 
-/// Whether the rows of a text's regions are as the cases show them.
+/// Whether the rows and hazards of a text's regions are as the cases show them.
 fn assert_rows(rt: &impl Abort, alloc: Global, text: &[u8], cases: &[Case]) -> Result<(), Fail> {
     for (region, asked, wanted) in cases {
-        let table = rows_of(alloc, text, *region, *asked)?;
-        let found = table_text(alloc, &table)?;
+        let found = found_of(alloc, text, *region, *asked)?;
+        let found = found_text(alloc, &found)?;
         assert_eq!(rt; found.as_str(), *wanted);
     }
     Ok(())
@@ -158,4 +162,25 @@ TF: 1*v0 + 0 = 1; 1*v2 + 0 < 3; Halted(End); v1 := 3\n\
 FT: 1*v0 + 0 /= 1; ALWAYS; Halted(End); v2 := 1*v1 + 0\n",
     )];
     assert_rows(&rt, rt.alloc(), TURNS, &turns)
+}
+
+#[test]
+fn hazards_have_their_least_input(rt: HostRuntime) -> Result<(), Fail> {
+    let range: [Case; 1] = [(0, Asked::Hazards, "F: 1*v0 + 0 > 8; Range(1); LEAST 9 9\n")];
+    assert_rows(&rt, rt.alloc(), RANGE, &range)?;
+    let below: [Case; 1] = [(
+        0,
+        Asked::Hazards,
+        "TTTTF: 1*v0 + 0 > 5; 1*v0 + 0 < 3; 1*v0 + 0 = 1; 1*v0 + 0 = 2; 1*v0 + 0 >= 9; FailedAssert(6); REFUTED\n\
+TTTF: 1*v0 + 0 > 5; 1*v0 + 0 < 3; 1*v0 + 0 = 1; 1*v0 + 0 /= 2; FailedAssert(4); REFUTED\n\
+TTF: 1*v0 + 0 > 5; 1*v0 + 0 < 3; 1*v0 + 0 /= 1; FailedAssert(3); REFUTED\n\
+TFF: 1*v0 + 0 > 5; 1*v0 + 0 >= 3; 1*v0 + 0 >= 9; FailedAssert(6); LEAST 9\n",
+    )];
+    assert_rows(&rt, rt.alloc(), BELOW, &below)?;
+    let product: [Case; 1] = [(
+        0,
+        Asked::Hazards,
+        "TF: 1*(1*v0 + 0 MUL 1*v1 + 0) + 0 < 3; 1*(1*v0 + 0 MUL 1*v1 + 0) + 0 >= 3; FailedAssert(2); LEAST 0 0\n",
+    )];
+    assert_rows(&rt, rt.alloc(), PRODUCT, &product)
 }

@@ -30,6 +30,10 @@ const SPLIT_OF_TWO: &[u8] =
 const SPLIT_OF_TEN: &[u8] =
     b"TITLE t;PROC p;IN x : 0 .. 9;PRE TRUE;POST TRUE;IF x /= 0;ASSERT x = 1;ENDIF;ENDPROC;FINISH;";
 
+/// Assertions that fail behind a test whose true side is met by no input, and on its other side.
+const BELOW: &[u8] =
+    b"TITLE t;PROC p;IN x : 0 .. 9;PRE TRUE;POST TRUE;IF x > 5;IF x < 3;ASSERT x = 1;ASSERT x = 2;ENDIF;ASSERT x < 9;ENDIF;ENDPROC;FINISH;";
+
 /// The precondition itself divides by 0; where it is false, nothing is wrong.
 const PRECONDITION: &[u8] =
     b"TITLE t;PROC p;IN a : 0 .. 5;PRE 10 DIV a > 2;POST TRUE;SKIP;ENDPROC;FINISH;";
@@ -68,6 +72,18 @@ fn splits_are_tried(rt: HostRuntime) -> Result<(), Fail> {
     assert!(rt; are_threats(rt.alloc(), SPLIT_OF_TWO, 0, &two)?);
     let ten: [&str; 1] = ["L0 TF FailedAssert(2) SHOWN 2"];
     assert!(rt; are_threats(rt.alloc(), SPLIT_OF_TEN, 0, &ten)?);
+    Ok(())
+}
+
+#[test]
+fn below_what_is_refuted_all_is(rt: HostRuntime) -> Result<(), Fail> {
+    let below: [&str; 4] = [
+        "L0 TTTTF FailedAssert(6) FALSE",
+        "L0 TTTF FailedAssert(4) FALSE",
+        "L0 TTF FailedAssert(3) FALSE",
+        "L0 TFF FailedAssert(6) SHOWN 9",
+    ];
+    assert!(rt; are_threats(rt.alloc(), BELOW, 0, &below)?);
     Ok(())
 }
 

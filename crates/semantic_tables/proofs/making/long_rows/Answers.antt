@@ -1,16 +1,16 @@
-use Rattle.std.specs.Prelude.{true, false}
 use Rattle.il_core.specs.Checked.{procedure_of}
 use Rattle.region_paths.specs.Laws.{BeginsRegion}
 use Rattle.semantic_tables.specs.Table.{IsLongTable}
 use Rattle.semantic_tables.specs.OneRow.{OneLongRowEach}
 use Rattle.semantic_tables.specs.Walk.{IsTableFor}
+use Rattle.semantic_tables.specs.declared.exploration.Query.TheVariants.{LongRows}
 use Rattle.semantic_tables.specs.declared.row.TableOr.{TableOr}
 use Rattle.semantic_tables.proofs.Made.{ok_both, ok_one, long_told}
 use Rattle.semantic_tables.proofs.making.long_rows.Goals as goal
 
 pub returns-clause-rows : goal.returns-clause-rows
 returns-clause-rows c =
-    ok_one c.rows_within.result (IsTableFor true false (procedure_of c.args.proc.now) c.args.control.now.loops c.args.pc) (IsLongTable (procedure_of c.args.proc.now) c.args.control.now.loops c.args.pc)
+    ok_one c.rows_within.result (IsTableFor LongRows (procedure_of c.args.proc.now) c.args.control.now.loops c.args.pc) (IsLongTable (procedure_of c.args.proc.now) c.args.control.now.loops c.args.pc)
     c.rows_within.ensures.rows (long_told (procedure_of c.args.proc.now) c.args.control.now.loops c.args.pc)
 
 pub returns-clause-one : goal.returns-clause-one

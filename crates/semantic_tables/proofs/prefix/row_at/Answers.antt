@@ -4,10 +4,9 @@ use Rattle.sym_terms.specs.declared.node.TermNode.{TermNode}
 use Rattle.sym_simplify.specs.Held.{form_of}
 use Rattle.sym_simplify.specs.Norm.{norm}
 use Rattle.sym_simplify.specs.Literal.{literal_form_of}
-use Rattle.semantic_tables.specs.Row.{comparison_form}
-use Rattle.semantic_tables.specs.Walk.{IsCompared, comparison_at, prefix_forms, AreForms, values_told}
-use Rattle.semantic_tables.specs.declared.prefix.Sides.{Sides}
-use Rattle.semantic_tables.proofs.Environments.{all_compared, forms_same, normal_same, all_below, all_kept}
+use Rattle.semantic_tables.specs.Walk.{IsCompared, prefix_forms}
+use Rattle.semantic_tables.proofs.Environments.{all_compared, normal_same}
+use Rattle.semantic_tables.proofs.Walks.{read_forms, read_sound}
 use Rattle.semantic_tables.proofs.prefix.row_at.Goals as goal
 
 pub literals_of-requires : goal.literals_of-requires
@@ -17,21 +16,14 @@ literals_of-requires c =
 
 pub returns-clause-row : goal.returns-clause-row
 returns-clause-row c =
-    let literals : map literal_form_of c.in_ok-literals_of.field-0 ≡ prefix_forms c.args.prefix.now =
-    c.in_ok-literals_of.ensures.forms ∙ ap (map (λ (s : Sides). comparison_form (comparison_at c.args.forms.now.terms s))) c.deref-2.ensures.value
-    ∙ forms_same (length c.args.env.now) c.args.forms.now.terms c.args.prefix.now.sides.items (prefix_forms c.args.prefix.now) c.requires.prefix in
-    let values : map form_of c.in_ok-values_asked.field-0 ≡ values_told c.args.bare (map norm (terms_of c.args.forms.now.terms c.args.env.now)) =
-    c.in_ok-values_asked.ensures.values ∙ ap (λ (ts : List TermNode). values_told c.args.bare (map norm (terms_of ts c.args.env.now))) c.in_ok-literals_of.ensures.terms in
-    normal_same c.in_ok-path_of.field-0 c.args.prefix.now.path.items (map literal_form_of c.in_ok-literals_of.field-0) (prefix_forms c.args.prefix.now) c.args.stop (map form_of c.in_ok-values_asked.field-0)
-    (values_told c.args.bare (map norm (terms_of c.args.forms.now.terms c.args.env.now))) (c.in_ok-path_of.ensures ∙ c.deref.ensures.value) literals values
+    let literals = read_forms (length c.args.env.now) c.args.forms.now.terms c.args.prefix.now c.deref-2.result.now c.in_ok-literals_of.field-0 c.requires.prefix c.deref-2.ensures.value c.in_ok-literals_of.ensures.forms in
+    let values : map form_of c.in_ok-values_of.field-0 ≡ map norm (terms_of c.args.forms.now.terms c.args.env.now) =
+    c.in_ok-values_of.ensures.values ∙ ap (λ (ts : List TermNode). map norm (terms_of ts c.args.env.now)) c.in_ok-literals_of.ensures.terms in
+    normal_same c.in_ok-path_of.field-0 c.args.prefix.now.path.items (map literal_form_of c.in_ok-literals_of.field-0) (prefix_forms c.args.prefix.now) c.args.stop (map form_of c.in_ok-values_of.field-0)
+    (map norm (terms_of c.args.forms.now.terms c.args.env.now)) (c.in_ok-path_of.ensures ∙ c.deref.ensures.value) literals values
 
 pub returns-clause-sound : goal.returns-clause-sound
 returns-clause-sound c =
-    let literals : map literal_form_of c.in_ok-literals_of.field-0 ≡ prefix_forms c.args.prefix.now =
-    c.in_ok-literals_of.ensures.forms ∙ ap (map (λ (s : Sides). comparison_form (comparison_at c.args.forms.now.terms s))) c.deref-2.ensures.value
-    ∙ forms_same (length c.args.env.now) c.args.forms.now.terms c.args.prefix.now.sides.items (prefix_forms c.args.prefix.now) c.requires.prefix in
-    let forms = subst (AreForms (length c.args.env.now) c.args.forms.now.terms c.args.prefix.now.sides.items) (sym literals) c.requires.prefix in
-    record {
-      below = all_below (length c.args.env.now) c.args.forms.now.terms c.args.prefix.now.sides.items c.in_ok-literals_of.field-0 forms;
-      kept = all_kept (length c.args.env.now) c.args.forms.now.terms c.args.prefix.now.sides.items c.in_ok-literals_of.field-0 forms;
-    }
+    let literals = read_forms (length c.args.env.now) c.args.forms.now.terms c.args.prefix.now c.deref-2.result.now c.in_ok-literals_of.field-0 c.requires.prefix c.deref-2.ensures.value c.in_ok-literals_of.ensures.forms in
+    let sound = read_sound (length c.args.env.now) c.args.forms.now.terms c.args.prefix.now c.in_ok-literals_of.field-0 c.requires.prefix literals in
+    record { below = sound.0; kept = sound.1 }

@@ -12,11 +12,11 @@ use Rattle.test_graph.proofs.Speaking.{decides-below}
 use Rattle.region_paths.specs.Region.{is_head, leading_of}
 use Rattle.region_paths.specs.PathTree.{PathTree, stops, grafted, passed, tree_to, leading_tree}
 use Rattle.region_paths.proofs.Walking.{in_at}
-use Rattle.semantic_tables.specs.Walk.{ground_procedure, IsGround, head_tree, head_in, leading_in, behind, leading_lines, lines_left, IsOnward, GoesOn}
-use Rattle.semantic_tables.specs.declared.course.Ground.{Ground}
-use Rattle.semantic_tables.specs.declared.course.Course.TheVariants.{Region, Leading}
-use Rattle.semantic_tables.specs.declared.course.Onward.{Onward}
-use Rattle.semantic_tables.specs.declared.course.Onward.TheVariants.{Stops, On}
+use Rattle.semantic_tables.specs.Walk.{explored_procedure, IsExploration, is_long, head_tree, head_in, leading_in, behind, leading_lines, lines_left, IsOnward, GoesOn}
+use Rattle.semantic_tables.specs.declared.exploration.Exploration.{Exploration}
+use Rattle.semantic_tables.specs.declared.segment.Segment.TheVariants.{Region, Leading}
+use Rattle.semantic_tables.specs.declared.segment.Onward.{Onward}
+use Rattle.semantic_tables.specs.declared.segment.Onward.TheVariants.{Stops, On}
 
 -- there is a loop at each index within
 pub loop_there : (loops : List LoopInfo) (at : ℕ) → at < length loops → (l : LoopInfo) × (slice_get loops at ≡ Some l)
@@ -65,31 +65,31 @@ leading_of_some : (o : Option LoopInfo) (l : LoopInfo) → o ≡ Some l → lead
 leading_of_some o l e = ap leading_in e
 
 -- the lines to which a loop leads are the procedure's
-pub line_inside : (g : Ground) (at from line : ℕ) (l : LoopInfo) → IsGround g → slice_get g.loops.now at ≡ Some l → slice_get l.leading from ≡ Some line → line < length (ground_procedure g).lines
+pub line_inside : (g : Exploration) (at from line : ℕ) (l : LoopInfo) → IsExploration g → slice_get g.loops.now at ≡ Some l → slice_get l.leading from ≡ Some line → line < length (explored_procedure g).lines
 line_inside g at from line l k e h = k.leading l (in_at g.loops.now at l e) line (in_at l.leading from line h)
 
 less_left : (n k : ℕ) → k < n → n - (k + 1) < n - k
 less_left n k h = omega (arith, h)
 
 -- the next leading assertion
-pub leads_on : (g : Ground) (at from line id : ℕ) (l : LoopInfo) → IsGround g → at < length g.loops.now → slice_get g.loops.now at ≡ Some l → slice_get l.leading from ≡ Some line
-    → Unfolds g.graph.now.nodes g.graph.now.entries id (decision_at (ground_procedure g) line)
-    → IsOnward g (lines_left g.loops.now (Leading at from)) (leading_tree (ground_procedure g) (head_in (slice_get g.loops.now at)) (drop from (leading_in (slice_get g.loops.now at)))) id (Leading at (from + 1))
+pub leads_on : (g : Exploration) (at from line id : ℕ) (l : LoopInfo) → IsExploration g → at < length g.loops.now → slice_get g.loops.now at ≡ Some l → slice_get l.leading from ≡ Some line
+    → Unfolds g.graph.now.nodes g.graph.now.entries id (decision_at (explored_procedure g) line)
+    → IsOnward g (lines_left g.loops.now (Leading at from)) (leading_tree (explored_procedure g) (head_in (slice_get g.loops.now at)) (drop from (leading_in (slice_get g.loops.now at)))) id (Leading at (from + 1))
 leads_on g at from line id l k inside e h u = record {
-  course_there = inside;
+  segment_there = inside;
   fewer = subst (λ (xs : List ℕ). length xs - (from + 1) < length xs - from) (sym (leading_of_some (slice_get g.loops.now at) l e))
       (less_left (length l.leading) from (slice_get_within l.leading from line h));
-  decision = decision_at (ground_procedure g) line;
+  decision = decision_at (explored_procedure g) line;
   unfolds = u;
-  places = decides-below (ground_procedure g) line k.checked;
-  same = lead_on (ground_procedure g) (slice_get g.loops.now at) l from line e h;
+  places = decides-below (explored_procedure g) line k.checked;
+  same = lead_on (explored_procedure g) (slice_get g.loops.now at) l from line e h;
 }
 
 -- the same with more lines left, and for the same tree
-pub goes_as : (g : Ground) (a b : ℕ) (t u : PathTree) (o : Onward) → a ≤ b → u ≡ t → GoesOn g a t o → GoesOn g b u o
+pub goes_as : (g : Exploration) (a b : ℕ) (t u : PathTree) (o : Onward) → a ≤ b → u ≡ t → GoesOn g a t o → GoesOn g b u o
 goes_as g a b t u (Stops end) l e h = e ∙ h
-goes_as g a b t u (On id course) l e h = record {
-  course_there = h.course_there;
+goes_as g a b t u (On id segment) l e h = record {
+  segment_there = h.segment_there;
   fewer = omega (arith, h.fewer, l);
   decision = h.decision;
   unfolds = h.unfolds;
@@ -126,15 +126,15 @@ at_end p loops long room q i e =
     ∙ ap (λ (n : ℕ). tree_to p loops (head_tree p loops long) n q) e
 
 -- the next line
-pub at_line_on : (g : Ground) (room less q first : ℕ) → IsGround g → is_head g.loops.now q ≡ false → room ≡ suc less
-    → Unfolds g.graph.now.nodes g.graph.now.entries first (decision_at (ground_procedure g) q)
-    → IsOnward g (lines_left g.loops.now (Region room)) (behind (ground_procedure g) g.loops.now g.long (Region room) (next.At q)) first (Region less)
+pub at_line_on : (g : Exploration) (room less q first : ℕ) → IsExploration g → is_head g.loops.now q ≡ false → room ≡ suc less
+    → Unfolds g.graph.now.nodes g.graph.now.entries first (decision_at (explored_procedure g) q)
+    → IsOnward g (lines_left g.loops.now (Region room)) (behind (explored_procedure g) g.loops.now (is_long g.query) (Region room) (next.At q)) first (Region less)
 at_line_on g room less q first k i e u = record {
-  course_there = tt;
+  segment_there = tt;
   fewer = omega (arith, e);
-  decision = decision_at (ground_procedure g) q;
+  decision = decision_at (explored_procedure g) q;
   unfolds = u;
-  places = decides-below (ground_procedure g) q k.checked;
-  same = other (is_head g.loops.now q) (head_tree (ground_procedure g) g.loops.now g.long q) (tree_to (ground_procedure g) g.loops.now (head_tree (ground_procedure g) g.loops.now g.long) room q) i
-      ∙ ap (λ (n : ℕ). tree_to (ground_procedure g) g.loops.now (head_tree (ground_procedure g) g.loops.now g.long) n q) e;
+  places = decides-below (explored_procedure g) q k.checked;
+  same = other (is_head g.loops.now q) (head_tree (explored_procedure g) g.loops.now (is_long g.query) q) (tree_to (explored_procedure g) g.loops.now (head_tree (explored_procedure g) g.loops.now (is_long g.query)) room q) i
+      ∙ ap (λ (n : ℕ). tree_to (explored_procedure g) g.loops.now (head_tree (explored_procedure g) g.loops.now (is_long g.query)) n q) e;
 }
