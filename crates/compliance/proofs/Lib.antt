@@ -5,7 +5,6 @@ pub mod Openings
 pub mod Following
 pub mod ShortPaths
 pub mod NoBadRun
-pub mod SafeLists
 pub mod Taking
 pub mod TakenBack
 pub mod Verdicts
@@ -20,3 +19,4 @@ pub mod Told
 pub mod BadPaths
 pub mod Regions
 pub mod Named
+pub mod SafeLists

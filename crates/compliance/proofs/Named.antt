@@ -1,5 +1,5 @@
 -- The literal that an open threat of a list names is there, and compares a term.
-use Rattle.std.proofs.Common.{◌≡◌, ◌⊎◌, inl, inr, ap, ◌∙◌, subst, ℕ, ◌≤◌, ℤ, true, false, Option, Some, None, List, [], ◌∷◌, map, length, take, slice_get, filter}
+use Rattle.std.proofs.Common.{◌≡◌, ◌⊎◌, inl, inr, refl, ap, ◌∙◌, subst, ℕ, ◌≤◌, ℤ, true, false, Option, Some, None, List, [], ◌∷◌, map, length, take, slice_get, filter}
 use Rattle.il_core.specs.LineGraph.{IsIn}
 use Rattle.il_core.specs.Procedure.{Procedure}
 use Rattle.flow_graph.proofs.Members.{IsIn-append_cases}
@@ -9,34 +9,41 @@ use Rattle.sym_simplify.specs.Form.{Form}
 use Rattle.sym_simplify.specs.Literal.{LiteralForm, always, never, keep, literal_form_of}
 use Rattle.sym_simplify.specs.Easy.{is_easy}
 use Rattle.region_paths.specs.Listing.{RegionPath}
+use Rattle.region_paths.specs.Size.{IsPast}
 use Rattle.region_paths.specs.declared.limit.Limit.{Limit}
 use Rattle.path_inputs.specs.Core.{is_disequality, IsLoose}
 use Rattle.semantic_tables.specs.Row.{forms_of}
+use Rattle.compliance.specs.Threat.{IsThreat}
 use Rattle.compliance.specs.Verdict.{HasVerdict}
 use Rattle.compliance.specs.Safe.{IsTold, AreTold, AreListedWithin, AreThreatsOf, NamesItsLiteral}
 use Rattle.compliance.specs.declared.threat.Threat.{Threat}
 use Rattle.compliance.specs.declared.threat.Verdict.TheVariants.{Open}
 
--- a threat of a path of some region
-record IsSomeTold (p : Procedure) (t : Threat) : Type 0 where
-  pc : ℕ
-  path : RegionPath
-  told : IsTold p pc path t
+-- a threat of a path of some region within its size
+pub record IsSomeTold (p : Procedure) (loops : List LoopInfo) (t : Threat) : Type 0 where
+  pub pc : ℕ
+  pub path : RegionPath
+  pub threat : IsThreat p loops pc path
+  pub within : IsPast p loops pc None
+  pub told : IsTold p pc path t
 
-in_told : (p : Procedure) (pc : ℕ) (rows : List RegionPath) (ts : List Threat) (t : Threat) → AreTold p pc rows ts → IsIn ts t → IsSomeTold p t
-in_told p pc [] ts t k i = absurd (subst (λ xs. IsIn xs t) k i)
-in_told p pc (r ∷ rows) [] t k i = absurd i
-in_told p pc (r ∷ rows) (u ∷ ts) t k (inl e) = record { pc = pc; path = r; told = subst (IsTold p pc r) e k.0 }
-in_told p pc (r ∷ rows) (u ∷ ts) t k (inr i) = in_told p pc rows ts t k.1 i
+in_told : (p : Procedure) (loops : List LoopInfo) (pc : ℕ) (rows : List RegionPath) (ts : List Threat) (t : Threat) → IsPast p loops pc None
+    → ((r : RegionPath) → IsIn rows r → IsThreat p loops pc r) → AreTold p pc rows ts → IsIn ts t → IsSomeTold p loops t
+in_told p loops pc [] ts t w all k i = absurd (subst (λ xs. IsIn xs t) k i)
+in_told p loops pc (r ∷ rows) [] t w all k i = absurd i
+in_told p loops pc (r ∷ rows) (u ∷ ts) t w all k (inl e) = record { pc = pc; path = r; threat = all r (inl refl); within = w; told = subst (IsTold p pc r) e k.0 }
+in_told p loops pc (r ∷ rows) (u ∷ ts) t w all k (inr i) = in_told p loops pc rows ts t w (λ q j. all q (inr j)) k.1 i
 
-in_region : (p : Procedure) (loops : List LoopInfo) (pc : ℕ) (past : Option Limit) (ts : List Threat) (t : Threat) → AreListedWithin p loops pc past ts → IsIn ts t → IsSomeTold p t
-in_region p loops pc (Some limit) ts t k i = absurd (subst (λ xs. IsIn xs t) k i)
-in_region p loops pc None ts t k i = in_told p pc k.0 ts t k.2 i
+in_region : (p : Procedure) (loops : List LoopInfo) (pc : ℕ) (past : Option Limit) (ts : List Threat) (t : Threat) → IsPast p loops pc past → AreListedWithin p loops pc past ts → IsIn ts t
+    → IsSomeTold p loops t
+in_region p loops pc (Some limit) ts t w k i = absurd (subst (λ xs. IsIn xs t) k i)
+in_region p loops pc None ts t w k i = in_told p loops pc k.0 ts t w (λ r j. (k.1.each r).0 j) k.2 i
 
-in_all : (p : Procedure) (loops : List LoopInfo) (lines : List ℕ) (ts : List Threat) (t : Threat) → AreThreatsOf p loops lines ts → IsIn ts t → IsSomeTold p t
+-- each threat of a list is one
+pub in_all : (p : Procedure) (loops : List LoopInfo) (lines : List ℕ) (ts : List Threat) (t : Threat) → AreThreatsOf p loops lines ts → IsIn ts t → IsSomeTold p loops t
 in_all p loops [] ts t k i = absurd (subst (λ xs. IsIn xs t) k i)
 in_all p loops (pc ∷ lines) ts t k i = elim (IsIn-append_cases k.0 k.1 t (subst (λ xs. IsIn xs t) k.2 i)) [
-  | inl j ↦ in_region p loops pc k.3 k.0 t k.5 j
+  | inl j ↦ in_region p loops pc k.3 k.0 t k.4 k.5 j
   | inr j ↦ in_all p loops lines k.1 t k.6 j
 ]
 

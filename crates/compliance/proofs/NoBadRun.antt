@@ -1,4 +1,4 @@
--- Where each threat is plainly refuted, no run halts badly: from an input of a region that has passed the region's opening, a piece of the run
+-- Where no input meets a threat, no run halts badly: from an input of a region that has passed the region's opening, a piece of the run
 -- comes to such an input of another region, or halts well.
 use Rattle.std.proofs.Common.{◌≡◌, ◌≢◌, inl, inr, refl, sym, ap, ◌∙◌, subst, ℕ, zero, suc, ◌+◌, ◌<◌, Bool, true, false, ◌||◌, eqb, eqb-true, List, [], ◌∷◌, map, length}
 use Rattle.std.specs.Prelude.{filter, slice_get}
@@ -42,12 +42,12 @@ use Rattle.region_paths.specs.Laws.{InputsTakeOnePath}
 use Rattle.region_paths.proofs.Fits.{fits, along-holds}
 use Rattle.region_paths.proofs.Marks.{length-head_marks, mark_of}
 use Rattle.path_inputs.specs.Core.{is_plain, is_disequality, core, core_disequalities}
-use Rattle.path_inputs.specs.Least.{Meets, IsPlainlyRefuted}
+use Rattle.path_inputs.specs.Least.{Meets, HasNoInput, IsPlainlyRefuted}
 use Rattle.compliance.specs.Opening.{opening, StayWithin}
 use Rattle.semantic_tables.specs.Row.{comparison_form, forms_of}
 use Rattle.semantic_tables.specs.Hazards.{stops_badly}
 use Rattle.compliance.specs.Threat.{IsThreat}
-use Rattle.compliance.specs.Laws.{ThreatsAreRefuted}
+use Rattle.compliance.specs.Laws.{ThreatsHaveNoInput}
 use Rattle.compliance.proofs.CutRuns.{EndsWell, GoodPiece, cut_runs}
 use Rattle.compliance.proofs.Members.{from_filter, from_take}
 use Rattle.compliance.proofs.QuietLines.{IsQuiet, quiet_way}
@@ -126,9 +126,9 @@ from_core fs f i = elim (IsIn-append_cases (filter is_plain fs) (core_disequalit
   | inr j ↦ (from_filter is_disequality fs f (from_take 8 (filter is_disequality fs) f j)).0
 ]
 
--- what an input meets is not plainly refuted
-met_not_refuted : (places : List Place) (pc : ℕ) (fs : List LiteralForm) (s : State) → Meets places pc fs s → IsPlainlyRefuted places pc fs → ⊥
-met_not_refuted places pc fs s m r = by_case r
+-- no input meets what is plainly refuted
+pub refuted_unmet : (places : List Place) (pc : ℕ) (fs : List LiteralForm) → IsPlainlyRefuted places pc fs → HasNoInput places pc fs
+refuted_unmet places pc fs r s m = by_case r
   where
     core_met : Meets places pc (core fs) s
     core_met = record { input = m.input; each = λ f i. m.each f (from_core fs f i) }
@@ -188,19 +188,19 @@ marked_first n loops q h =
     let b : q < n = rw (length-head_marks n loops) at l in
     inr (in_heads loops q (same_Some (is_head loops q) true (sym (mark_of n loops q b) ∙ h)))
 
--- a long path that an input takes, which has passed the region's opening, does not stop badly where each threat is refuted
-stops_well : (p : Procedure) (loops : List LoopInfo) (pc : ℕ) (s : State) (r : RegionPath) (h : Halt) → WaysAreSteps → IsChecked p → AreRegions p loops → ThreatsAreRefuted p loops
+-- a long path that an input takes, which has passed the region's opening, does not stop badly where no input meets a threat
+stops_well : (p : Procedure) (loops : List LoopInfo) (pc : ℕ) (s : State) (r : RegionPath) (h : Halt) → WaysAreSteps → IsChecked p → AreRegions p loops → ThreatsHaveNoInput p loops
     → HasEntered p loops pc s → IsLongPath p loops pc r → all_hold r.row.literals s ≡ true → r.stop ≡ stop.Halted h → is_bad h ≡ true → ⊥
-stops_well p loops pc s r h law c regions refuted g k holds e bad =
+stops_well p loops pc s r h law c regions unmet g k holds e bad =
     let range = input_in_range p.places pc s g.input in
     let threat : IsThreat p loops pc r = record { path = k; bad = ap stops_badly e ∙ bad; behind = leaves_opening p loops pc s r h law c regions range g.passed k holds e } in
     let met : Meets p.places pc (forms_of r) s = record { input = g.input; each = forms_hold r.row.literals s holds } in
-    met_not_refuted p.places pc (forms_of r) s met (refuted pc r g.first threat)
+    unmet pc r g.first threat s met
 
 -- from such an input a piece of the run ends well
-region_piece : (p : Procedure) (loops : List LoopInfo) → InputsTakeOnePath → WaysAreSteps → IsChecked p → AreRegions p loops → ThreatsAreRefuted p loops
+region_piece : (p : Procedure) (loops : List LoopInfo) → InputsTakeOnePath → WaysAreSteps → IsChecked p → AreRegions p loops → ThreatsHaveNoInput p loops
     → (pc : ℕ) (s : State) → HasEntered p loops pc s → GoodPiece p (head_marks (length p.lines) loops) (HasEntered p loops) pc s
-region_piece p loops takes law c regions refuted pc s g = record {
+region_piece p loops takes law c regions unmet pc s g = record {
   count = steps.0;
   end = met;
   to_s = mid;
@@ -227,7 +227,7 @@ region_piece p loops takes law c regions refuted pc s g = record {
     on = t.leads.3
 
     not_bad : (h : Halt) (b : Bool) → t.path.stop ≡ stop.Halted h → is_bad h ≡ b → is_bad h ≡ false
-    not_bad h true e k = absurd (stops_well p loops pc s t.path h law c regions refuted g t.there t.holds e k)
+    not_bad h true e k = absurd (stops_well p loops pc s t.path h law c regions unmet g t.there t.holds e k)
     not_bad h false e k = k
 
     by_met : (end : Stop) → Reaches p (head_marks (length p.lines) loops) steps.0 pc s end mid → StepsOn p loops end mid t.path.stop (state_of t.path.row.values s)
@@ -241,11 +241,11 @@ region_piece p loops takes law c regions refuted pc s g = record {
             input = in_range_input p.places q mid k.1.1 k.0;
             passed = opening_passed p loops q mid regions x.2;
           }
-          | inr x ↦ absurd (stops_well p loops pc s t.path x.0 law c regions refuted g t.there t.holds x.1 x.2)
+          | inr x ↦ absurd (stops_well p loops pc s t.path x.0 law c regions unmet g t.there t.holds x.1 x.2)
         ]
 
--- where each threat is plainly refuted, no run from the precondition halts badly
-pub no_bad_run : (p : Procedure) (loops : List LoopInfo) → InputsTakeOnePath → WaysAreSteps → IsChecked p → AreRegions p loops → ThreatsAreRefuted p loops → HasNoBadRun p
-no_bad_run p loops takes law c regions refuted n s to_s halt inside h =
+-- where no input meets a threat, no run from the precondition halts badly
+pub no_bad_run : (p : Procedure) (loops : List LoopInfo) → InputsTakeOnePath → WaysAreSteps → IsChecked p → AreRegions p loops → ThreatsHaveNoInput p loops → HasNoBadRun p
+no_bad_run p loops takes law c regions unmet n s to_s halt inside h =
     let start : HasEntered p loops 0 s = record { first = inl refl; input = inside.0; passed = λ q i. absurd (start_not_opened p loops q c regions i) } in
-    cut_runs p (head_marks (length p.lines) loops) (HasEntered p loops) (region_piece p loops takes law c regions refuted) n 0 s halt to_s start h
+    cut_runs p (head_marks (length p.lines) loops) (HasEntered p loops) (region_piece p loops takes law c regions unmet) n 0 s halt to_s start h

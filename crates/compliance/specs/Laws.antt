@@ -14,13 +14,13 @@ use Rattle.test_graph.specs.Way.{Way}
 use Rattle.region_paths.specs.Chain.{IsLongChain}
 use Rattle.region_paths.specs.Listing.{RegionPath}
 use Rattle.region_paths.specs.Laws.{BeginsRegion}
-use Rattle.path_inputs.specs.Least.{Meets, IsPlainlyRefuted, IsLeastInput}
+use Rattle.path_inputs.specs.Least.{Meets, HasNoInput, IsPlainlyRefuted, IsLeastInput}
 use Rattle.path_inputs.specs.Laws.{AreInCore}
 use Rattle.compliance.specs.Opening.{opening, StayWithin}
 use Rattle.semantic_tables.specs.Row.{forms_of}
 use Rattle.compliance.specs.Threat.{IsThreat, AreThreats}
 use Rattle.compliance.specs.Verdict.{TakesDecisions, TakesPath, IsFirstLoose, HasVerdict}
-use Rattle.compliance.specs.Safe.{AreThreatsOf, IsSafeWhereRefuted}
+use Rattle.compliance.specs.Safe.{AreThreatsOf, IsSafeWhereUnmet, IsSafeWhereRefuted}
 use Rattle.compliance.specs.declared.threat.Threat.{Threat}
 use Rattle.compliance.specs.declared.threat.Verdict.{Verdict}
 
@@ -34,11 +34,24 @@ abbrev pub ThreatsAreListed : Type 0
 ThreatsAreListed = (p : Procedure) (loops : List LoopInfo) (pc : ℕ) → BeginsRegion p loops pc
     → (rows : List RegionPath) × AreThreats p loops pc rows × ((others : List RegionPath) → AreThreats p loops pc others → others ≡ rows)
 
+-- no input of its region meets all literals of a threat, each threat of each region
+abbrev pub ThreatsHaveNoInput : Procedure → List LoopInfo → Type 0
+ThreatsHaveNoInput p loops = (pc : ℕ) (r : RegionPath) → IsIn (first_lines loops) pc → IsThreat p loops pc r → HasNoInput p.places pc (forms_of r)
+
+-- where no input meets a threat, no run from the precondition halts badly, however long it is
+abbrev pub UnmetThreatsMeanNoBadRun : Type 0
+UnmetThreatsMeanNoBadRun = (p : Procedure) (loops : List LoopInfo) → IsChecked p → AreRegions p loops → ThreatsHaveNoInput p loops → HasNoBadRun p
+
+-- the same of a list of the threats of all regions within their size, where each region is
+abbrev pub UnmetListsMeanNoBadRun : Type 0
+UnmetListsMeanNoBadRun = (p : Procedure) (loops : List LoopInfo) (ts : List Threat) → IsChecked p → AreRegions p loops → AreThreatsOf p loops (first_lines loops) ts
+    → IsSafeWhereUnmet p loops ts
+
 -- each threat of each region is plainly refuted
 abbrev pub ThreatsAreRefuted : Procedure → List LoopInfo → Type 0
 ThreatsAreRefuted p loops = (pc : ℕ) (r : RegionPath) → IsIn (first_lines loops) pc → IsThreat p loops pc r → IsPlainlyRefuted p.places pc (forms_of r)
 
--- where each threat is plainly refuted, no run from the precondition halts badly, however long it is
+-- where each threat is plainly refuted, so that no input meets it, no run from the precondition halts badly
 abbrev pub RefutedThreatsMeanNoBadRun : Type 0
 RefutedThreatsMeanNoBadRun = (p : Procedure) (loops : List LoopInfo) → IsChecked p → AreRegions p loops → ThreatsAreRefuted p loops → HasNoBadRun p
 

@@ -12,6 +12,7 @@ use Rattle.region_paths.specs.Region.{first_lines}
 use Rattle.region_paths.specs.Listing.{RegionPath}
 use Rattle.region_paths.specs.Size.{IsPast}
 use Rattle.region_paths.specs.declared.limit.Limit.{Limit}
+use Rattle.path_inputs.specs.Least.{HasNoInput}
 use Rattle.semantic_tables.specs.Row.{forms_of}
 use Rattle.compliance.specs.Threat.{AreThreats}
 use Rattle.compliance.specs.Verdict.{HasVerdict}
@@ -41,6 +42,14 @@ abbrev pub AreThreatsOf : Procedure → List LoopInfo → List ℕ → List Thre
 AreThreatsOf p loops [] ts = ts ≡ []
 AreThreatsOf p loops (pc ∷ lines) ts = (here : List Threat) × (others : List Threat) × (ts ≡ here ++ others)
     × (past : Option Limit) × IsPast p loops pc past × AreListedWithin p loops pc past here × AreThreatsOf p loops lines others
+
+-- no input of its region meets all literals of a threat
+abbrev pub IsUnmet : Procedure → Threat → Type 0
+IsUnmet p t = HasNoInput p.places t.region (map literal_form_of t.literals)
+
+-- where no region is past its size and no input meets a threat listed, no run from the precondition halts badly
+abbrev pub IsSafeWhereUnmet : Procedure → List LoopInfo → List Threat → Type 0
+IsSafeWhereUnmet p loops ts = ((pc : ℕ) → IsIn (first_lines loops) pc → IsPast p loops pc None) → ((t : Threat) → IsIn ts t → IsUnmet p t) → HasNoBadRun p
 
 -- where no region is past its size and each threat listed is refuted, no run from the precondition halts badly
 abbrev pub IsSafeWhereRefuted : Procedure → List LoopInfo → List Threat → Type 0

@@ -1,5 +1,5 @@
 //! Laws of runs and threats, as contracts of functions that do nothing.
-ghost use Rattle.compliance.specs.Laws.{ShortPathsStayWithin, ThreatsAreListed, RefutedThreatsMeanNoBadRun, RefutedListsMeanNoBadRun, ThreatsAreTakenWhereMet, LeastInputsTakeThreats, OpenThreatsAreLoose, ThreatsAreTakenSoon, OneVerdict};
+ghost use Rattle.compliance.specs.Laws.{ShortPathsStayWithin, ThreatsAreListed, UnmetThreatsMeanNoBadRun, UnmetListsMeanNoBadRun, RefutedThreatsMeanNoBadRun, RefutedListsMeanNoBadRun, ThreatsAreTakenWhereMet, LeastInputsTakeThreats, OpenThreatsAreLoose, ThreatsAreTakenSoon, OneVerdict};
 
 use path_inputs::{least_meets_core, unmet_is_loose};
 use region_paths::{inputs_take_one_path, one_listing, paths_are_listed};
@@ -21,21 +21,35 @@ pub fn threats_are_listed()
     paths_are_listed();
 }
 
-/// Where each threat of each region is plainly refuted, no run from the precondition faults, fails an assertion or ends
-/// outside the postcondition, however long it is, also where it never ends.
-pub fn refuted_threats_mean_no_bad_run()
-    ensures { RefutedThreatsMeanNoBadRun }
+/// Where no input of its region meets all literals of a threat, each threat of each region, no run from the precondition
+/// faults, fails an assertion or ends outside the postcondition, however long it is, also where it never ends.
+pub fn unmet_threats_mean_no_bad_run()
+    ensures { UnmetThreatsMeanNoBadRun }
 {
     ways_are_steps();
     inputs_take_one_path();
 }
 
 /// The same of a list of the threats of all regions within their size, where no region is past it.
+pub fn unmet_lists_mean_no_bad_run()
+    ensures { UnmetListsMeanNoBadRun }
+{
+    one_listing();
+    unmet_threats_mean_no_bad_run();
+}
+
+/// Where each threat of each region is plainly refuted, there is no such run.
+pub fn refuted_threats_mean_no_bad_run()
+    ensures { RefutedThreatsMeanNoBadRun }
+{
+    unmet_threats_mean_no_bad_run();
+}
+
+/// The same of a list of the threats of all regions within their size, where no region is past it.
 pub fn refuted_lists_mean_no_bad_run()
     ensures { RefutedListsMeanNoBadRun }
 {
-    one_listing();
-    refuted_threats_mean_no_bad_run();
+    unmet_lists_mean_no_bad_run();
 }
 
 /// An input of a region takes a threat, so that the lines stepped take its decisions and stop as it does, exactly where

@@ -1,10 +1,10 @@
 pub mod Members
 pub mod Elements
 mod Cores
-mod Readings
-mod Splits
-mod Copies
+pub mod Readings
+pub mod Splits
+pub mod Copies
 mod Given
-mod Solutions
+pub mod Solutions
 mod Judged
-mod Asked
+pub mod Asked

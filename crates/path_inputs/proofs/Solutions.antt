@@ -17,7 +17,7 @@ use Rattle.difference.specs.declared.constraint.Constraint.{Constraint}
 use Rattle.difference.specs.declared.constraint.Split.{Split}
 use Rattle.path_inputs.specs.Core.{is_plain, is_disequality, core_disequalities, other_disequalities, core, sided, all_sided, split_by}
 use Rattle.path_inputs.specs.Least.{Meets, HasNoInput, IsPlainlyRefuted, IsLeastInput}
-use Rattle.path_inputs.specs.Bounding.{range_of, copies, constraints_of, splits_of, all_constraints, AreJudged, IsAnswered}
+use Rattle.path_inputs.specs.Bounding.{range_of, copies, constraints_of, splits_of, all_constraints, IsJudged, AreJudged, IsAnswered}
 use Rattle.path_inputs.proofs.Members.{in-left, in-right, in-either, in-take, in-drop, in-take_or_drop, in-filter, from-filter, in-place, place-of}
 use Rattle.path_inputs.proofs.Elements.{all-members, members-all, in-flat, from-flat}
 use Rattle.path_inputs.proofs.Cores.{second-true, side-holds, side-of, split-core, core-split}
@@ -185,6 +185,10 @@ module _ (places : List Place) (pc : ℕ) where
       | inl k ↦ n.3 s m (m.each n.0 (in-right (filter is_plain fs) (core_disequalities fs) n.0 k))
       | inr k ↦ let t = other-met h n.0 k in n.3 t.0 t.1 t.2
     ]
+
+    -- where the core and each other split beside it have a solution, the forms are not refuted
+    pub unrefuted : IsJudged ranges given first-eight true → AreJudged ranges given first-eight (drop 8 (flat_map splits_of fs)) true → IsPlainlyRefuted places pc fs → ⊥
+    unrefuted (s, choice, chosen, h) o = not-refuted s (split-core places pc fs s choice (chosen ∙ split-count) (solution-split choice s h)) o
 
     first-least : (s : State) → IsFirst ranges given first-eight s → AreJudged ranges given first-eight (drop 8 (flat_map splits_of fs)) true → IsLeastInput places pc fs s
     first-least s h o =

@@ -13,3 +13,5 @@ mod system;
 
 pub use laws::{least_meets_core, refuted_stays_refuted, unmet_is_loose};
 pub use least::least_input;
+pub use reading::{Reading, read};
+pub use system::{System, system_of};

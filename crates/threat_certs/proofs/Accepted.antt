@@ -13,9 +13,9 @@ use Rattle.sym_simplify.specs.Literal.{LiteralForm, keep, form_holds}
 use Rattle.sym_simplify.proofs.NormValues.{total, normal-value, total-append, total-scaled}
 use Rattle.path_inputs.specs.Least.{Meets}
 use Rattle.path_inputs.proofs.Members.{in-place}
-use Rattle.threat_certs.specs.declared.certificate.Share.{Share}
-use Rattle.threat_certs.specs.Certificate.{Certificate, sum, split}
-use Rattle.threat_certs.specs.Acceptance.{IsSumOf, IsNegativeSum, Refutes, IsAccepted}
+use Rattle.il_core.specs.declared.certificate.Share.{Share}
+use Rattle.il_core.specs.Certificate.{Certificate, sum, split}
+use Rattle.cert_rules.specs.Acceptance.{IsSumOf, IsNegativeSum, Refutes, IsAccepted}
 use Rattle.threat_certs.proofs.Quantities.{quantity-above}
 
 times-above : (n : ℕ) (v : ℤ) → pos 0 ≤ℤ v → pos 0 ≤ℤ (pos n *ℤ v)

@@ -18,9 +18,9 @@ use Rattle.sym_simplify.specs.Literal.{LiteralForm, never, form_holds}
 use Rattle.sym_simplify.proofs.NormValues.{total, total-scaled, sum-times, times-times}
 use Rattle.path_inputs.specs.Least.{Meets}
 use Rattle.path_inputs.proofs.Members.{in-place}
-use Rattle.threat_certs.specs.declared.certificate.Item.{Item}
-use Rattle.threat_certs.specs.declared.certificate.Item.TheVariants.{Up, Down, Never, Low, High, OldUp, OldDown}
-use Rattle.threat_certs.specs.Quantity.{highest, lowest, IsReduced, summands_in, times_and, IsUp, IsDown, IsCopyOf, IsQuantity}
+use Rattle.il_core.specs.declared.certificate.Item.{Item}
+use Rattle.il_core.specs.declared.certificate.Item.TheVariants.{Up, Down, Never, Low, High, OldUp, OldDown}
+use Rattle.cert_rules.specs.Quantity.{highest, lowest, IsReduced, summands_in, times_and, IsUp, IsDown, IsCopyOf, IsQuantity}
 
 multiplied-value : (c : ℤ) (n : Form) (s : State) → form_value (scale_parts c n) s ≡ c *ℤ form_value n s
 multiplied-value c (constant d) s = refl
@@ -28,10 +28,10 @@ multiplied-value c (part d a n) s =
     ap (λ v. ((c *ℤ d) *ℤ factor_value a s) +ℤ v) (multiplied-value c n s)
     ∙ (ap (λ v. v +ℤ (c *ℤ form_value n s)) (times-times c d (factor_value a s)) ∙ sym (sum-times c (d *ℤ factor_value a s) (form_value n s)))
 
-one : (c : ℤ) → pos 1 *ℤ c ≡ c
+pub one : (c : ℤ) → pos 1 *ℤ c ≡ c
 one c = grind (arith, ints)
 
-minus-one : (c : ℤ) → negsuc 0 *ℤ c ≡ neg_ℤ c
+pub minus-one : (c : ℤ) → negsuc 0 *ℤ c ≡ neg_ℤ c
 minus-one c = grind (arith, ints)
 
 pub once : (n : Form) → scale_parts (pos 1) n ≡ n
@@ -46,7 +46,7 @@ summands-total : (n : Form) (s : State) → total (summands_in n) s ≡ form_val
 summands-total (constant c) s = +ℤ_idr c
 summands-total (part c a n) s = ap (λ v. (c *ℤ factor_value a s) +ℤ v) (summands-total n s)
 
-times-total : (c : ℤ) (m : Form) (d : ℤ) (s : State) → total (times_and c m d) s ≡ d +ℤ (c *ℤ form_value m s)
+pub times-total : (c : ℤ) (m : Form) (d : ℤ) (s : State) → total (times_and c m d) s ≡ d +ℤ (c *ℤ form_value m s)
 times-total c m d s = ap (λ v. d +ℤ v) (total-scaled c (summands_in m) s ∙ ap (λ v. c *ℤ v) (summands-total m s))
 
 none-allowed : {A : Type 0} (x : ℤ) → None ≡ Some x → A

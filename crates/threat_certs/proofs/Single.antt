@@ -11,9 +11,9 @@ use Rattle.sym_simplify.specs.Norm.{Summand, alone, often}
 use Rattle.sym_simplify.specs.Normal.{constant_of}
 use Rattle.sym_simplify.specs.Merge.{scale_parts}
 use Rattle.sym_simplify.specs.Literal.{LiteralForm, always, never, keep}
-use Rattle.threat_certs.specs.declared.certificate.Item.{Item}
-use Rattle.threat_certs.specs.declared.certificate.Item.TheVariants.{Up, Down, Never, Low, High, OldUp, OldDown}
-use Rattle.threat_certs.specs.Quantity.{highest, lowest, IsReduced, times_and, IsUp, IsDown, IsCopyOf, less, IsQuantity}
+use Rattle.il_core.specs.declared.certificate.Item.{Item}
+use Rattle.il_core.specs.declared.certificate.Item.TheVariants.{Up, Down, Never, Low, High, OldUp, OldDown}
+use Rattle.cert_rules.specs.Quantity.{highest, lowest, IsReduced, times_and, IsUp, IsDown, IsCopyOf, less, IsQuantity}
 use Rattle.threat_certs.proofs.Quantities.{once}
 
 side : (x y : ℤ) → (x ≤ℤ y) ⊎ (suc_ℤ y ≤ℤ x)
@@ -38,7 +38,7 @@ abbrev is_part : Form → Bool
 is_part (constant c) = false
 is_part (part c a n) = true
 
-abbrev first : Form → ℤ
+abbrev pub first : Form → ℤ
 first (constant c) = pos 0
 first (part c a n) = c
 
@@ -67,12 +67,12 @@ same-reduced n (suc g) h m k a b =
     let e : suc g ≡ h = (let l = a.greatest h k b.multiple in let u = b.greatest (suc g) m a.multiple in omega arith) in
     record { factor = e; term = same-scaled g m k (a.multiple ∙ (sym b.multiple ∙ ap (λ x. scale_parts (pos x) k) (sym e))) }
 
-abbrev highest_of : LiteralForm → Option ℤ
+abbrev pub highest_of : LiteralForm → Option ℤ
 highest_of always = None
 highest_of never = None
 highest_of (keep n r b) = highest r b
 
-abbrev lowest_of : LiteralForm → Option ℤ
+abbrev pub lowest_of : LiteralForm → Option ℤ
 lowest_of always = None
 lowest_of never = None
 lowest_of (keep n r b) = lowest r b

@@ -10,14 +10,14 @@ use Rattle.sym_simplify.specs.Form.{times, Form, constant, part, place, pair}
 use Rattle.sym_simplify.specs.Merge.{scale_parts}
 use Rattle.sym_simplify.specs.Norm.{Summand, alone, scaled, normal_of}
 use Rattle.il_core.specs.declared.operator.Relation.{Relation}
-use Rattle.threat_certs.specs.declared.certificate.Item.{Item}
+use Rattle.il_core.specs.declared.certificate.Item.{Item}
 use Rattle.sym_simplify.specs.Literal.{LiteralForm, always, never, keep, form_holds}
 use Rattle.sym_simplify.specs.Easy.{is_other_than}
 use Rattle.path_inputs.specs.Least.{Meets}
-use Rattle.threat_certs.specs.declared.certificate.Item.TheVariants.{Up, Down, Never}
-use Rattle.threat_certs.specs.Certificate.{Certificate, sum, split}
-use Rattle.threat_certs.specs.Quantity.{highest, lowest, IsReduced, times_and, IsQuantity}
-use Rattle.threat_certs.specs.Acceptance.{IsSumOf, IsNegativeSum, IsAccepted}
+use Rattle.il_core.specs.declared.certificate.Item.TheVariants.{Up, Down, Never}
+use Rattle.il_core.specs.Certificate.{Certificate, sum, split}
+use Rattle.cert_rules.specs.Quantity.{highest, lowest, IsReduced, times_and, IsQuantity}
+use Rattle.cert_rules.specs.Acceptance.{IsSumOf, IsNegativeSum, IsAccepted}
 use Rattle.threat_certs.specs.WorkedCertificates.{both, x, y, products, twice_apart, odd, zero_alone, other_than_zero}
 use Rattle.threat_certs.proofs.Accepted.{accepted-unmet}
 

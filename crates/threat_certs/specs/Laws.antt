@@ -14,10 +14,10 @@ use Rattle.path_inputs.specs.Least.{HasNoInput}
 use Rattle.semantic_tables.specs.Row.{forms_of}
 use Rattle.compliance.specs.Threat.{IsThreat}
 use Rattle.compliance.specs.Verdict.{TakesPath}
-use Rattle.threat_certs.specs.Certificate.{Certificate}
-use Rattle.threat_certs.specs.Quantity.{IsQuantity}
-use Rattle.threat_certs.specs.Acceptance.{IsAccepted}
-use Rattle.threat_certs.specs.declared.certificate.Item.{Item}
+use Rattle.il_core.specs.Certificate.{Certificate}
+use Rattle.cert_rules.specs.Quantity.{IsQuantity}
+use Rattle.cert_rules.specs.Acceptance.{IsAccepted}
+use Rattle.il_core.specs.declared.certificate.Item.{Item}
 
 abbrev pub AcceptedThreatsHaveNoInput : Type 0
 AcceptedThreatsHaveNoInput = (places : List Place) (pc : ℕ) (fs : List LiteralForm) (c : Certificate) → IsAccepted places pc fs c → HasNoInput places pc fs

@@ -1,5 +1,7 @@
-pub mod Certificate
-pub mod Quantity
-pub mod Acceptance
 pub mod Laws
+pub mod Settled
 pub mod WorkedCertificates
+pub mod Counting
+pub mod Making
+pub mod Adding
+pub mod Measuring

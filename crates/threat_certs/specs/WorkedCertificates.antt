@@ -3,10 +3,10 @@ use Rattle.std.specs.Prelude.{pos, negsuc, List, [], ◌∷◌}
 use Rattle.il_core.specs.declared.operator.Relation.TheVariants.{Ne, Lt, Le, Ge}
 use Rattle.sym_simplify.specs.Form.{times, Form, constant, part, place, pair}
 use Rattle.sym_simplify.specs.Literal.{LiteralForm, keep, never}
-use Rattle.threat_certs.specs.declared.certificate.Item.{Item}
-use Rattle.threat_certs.specs.declared.certificate.Item.TheVariants.{Up, Down, Never}
-use Rattle.threat_certs.specs.Certificate.{Certificate, sum, split}
-use Rattle.threat_certs.specs.Acceptance.{IsAccepted}
+use Rattle.il_core.specs.declared.certificate.Item.{Item}
+use Rattle.il_core.specs.declared.certificate.Item.TheVariants.{Up, Down, Never}
+use Rattle.il_core.specs.Certificate.{Certificate, sum, split}
+use Rattle.cert_rules.specs.Acceptance.{IsAccepted}
 
 -- these items, once each
 abbrev pub both : Item → Item → Certificate

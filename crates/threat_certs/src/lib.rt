@@ -6,11 +6,22 @@
 //! Outline of an algorithm for integer solutions to linear programs, 1958). It tells by sums alone, whoever made it.
 #![tactic(auto)]
 
-mod certificate;
+mod adding;
+mod comparing;
+mod counting;
+mod factor;
+mod holding;
 mod laws;
+mod making;
+mod quantity;
+mod refuting;
+mod settled;
+mod summing;
 
-pub use certificate::{Cert, Item, Share};
+pub use holding::holds;
 pub use laws::{
     accepted_threats_are_not_taken, accepted_threats_have_no_input, one_quantity,
     worked_certificates,
 };
+pub use making::make_cert;
+pub use settled::{certified_threats_mean_no_bad_run, listed_threats_are_sound};

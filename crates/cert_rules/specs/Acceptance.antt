@@ -6,9 +6,9 @@ use Rattle.il_core.specs.declared.operator.Relation.TheVariants.{Ne, Lt, Gt}
 use Rattle.sym_simplify.specs.Form.{Form, constant}
 use Rattle.sym_simplify.specs.Norm.{Summand, scaled, normal_of}
 use Rattle.sym_simplify.specs.Literal.{LiteralForm, keep}
-use Rattle.threat_certs.specs.declared.certificate.Share.{Share}
-use Rattle.threat_certs.specs.Certificate.{Certificate, sum, split, nesting}
-use Rattle.threat_certs.specs.Quantity.{IsQuantity}
+use Rattle.il_core.specs.declared.certificate.Share.{Share}
+use Rattle.il_core.specs.Certificate.{Certificate, sum, split, nesting}
+use Rattle.cert_rules.specs.Quantity.{IsQuantity}
 
 -- the quantity of each share, as often as its factor says, which is 1 to 65,536
 abbrev pub IsSumOf : List Place → ℕ → List LiteralForm → List Share → List Summand → Type 0

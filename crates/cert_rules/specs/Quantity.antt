@@ -10,8 +10,8 @@ use Rattle.sym_simplify.specs.Form.{Form, constant, part, place}
 use Rattle.sym_simplify.specs.Norm.{Summand, alone, often, scaled}
 use Rattle.sym_simplify.specs.Merge.{scale_parts}
 use Rattle.sym_simplify.specs.Literal.{LiteralForm, never, keep}
-use Rattle.threat_certs.specs.declared.certificate.Item.{Item}
-use Rattle.threat_certs.specs.declared.certificate.Item.TheVariants.{Up, Down, Never, Low, High, OldUp, OldDown}
+use Rattle.il_core.specs.declared.certificate.Item.{Item}
+use Rattle.il_core.specs.declared.certificate.Item.TheVariants.{Up, Down, Never, Low, High, OldUp, OldDown}
 
 -- the greatest whole number that a relation to a bound allows, and the least; none where there is none
 abbrev pub highest : Relation → ℤ → Option ℤ

@@ -1,0 +1,2 @@
+pub mod Quantity
+pub mod Acceptance

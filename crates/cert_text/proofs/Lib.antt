@@ -1,0 +1,9 @@
+pub mod Options
+pub mod Parts
+pub mod Numbers
+pub mod LinesRead
+pub mod Bodies
+pub mod Texts
+pub mod Stuck
+pub mod Certs
+pub mod Bad
