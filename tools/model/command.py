@@ -10,7 +10,7 @@ from typing import Callable
 
 from model.accepting import accept
 from model.making import number_of, summary_of
-from model.printing import SECTIONS, report_of
+from model.printing import SECTIONS, SIX, report_of
 from model.refusal import Refused
 
 DEEPEST_CALL = 200_000
@@ -43,11 +43,11 @@ def read_words(words: list[str]) -> Request | None:
             return None
     if len(made) > 1 or None in made:
         return None
-    sections = tuple(section for section in SECTIONS if section in named or not named)
+    sections = tuple(section for section in SECTIONS if section in named) or SIX
     return Request(sections, made[0] if made else None)
 
 
-def answer(text: bytes, sections: tuple[str, ...] = SECTIONS) -> tuple[str, int]:
+def answer(text: bytes, sections: tuple[str, ...] = SIX) -> tuple[str, int]:
     """What is printed for a text, and the exit status."""
     try:
         return report_of(accept(text), sections)

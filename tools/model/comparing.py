@@ -52,7 +52,7 @@ WORDS += ["--generate", "--generate=2", "3", "7", "0", "201", "007", "--generate
 def words_for(name: str) -> list[str]:
     """Random words for a text: report words, and now and then others."""
     choice = random.Random(name)
-    return choice.choices(WORDS[: 6 if choice.random() < 0.7 else None], k=choice.choice([0, 1, 1, 2, 3]))
+    return choice.choices(WORDS[: len(SECTIONS) if choice.random() < 0.7 else None], k=choice.choice([0, 1, 1, 2, 3]))
 
 
 def run(program: list[str], text: bytes, seconds: float) -> Answer:
@@ -175,7 +175,7 @@ class Comparison:
 
     def compare(self, name: str, text: bytes) -> None:
         """Compares on one text."""
-        words = words_for(name) if self.options.words else []
+        words = words_for(name) if self.options.words else WORDS[: len(SECTIONS)] if self.options.all else []
         found = self.difference_of(words, text)
         if found is None:
             self.passed += 1
@@ -223,6 +223,7 @@ def read_options(words: list[str]) -> argparse.Namespace:
     parser.add_argument("--skip", action="append", default=[], choices=SECTIONS, help="a section that is not compared")
     parser.add_argument("--states", type=int, default=0, help="try the model on all inputs of procedures of so few states")
     parser.add_argument("--words", action="store_true", help="give the program random words with each text")
+    parser.add_argument("--all", action="store_true", help="ask for every section that the model has, also the test inputs")
     parser.add_argument("--shrink", action="store_true", help="make differing texts as small as possible")
     return parser.parse_args(words)
 

@@ -17,12 +17,13 @@ FAULTS = ("ASSERT", "POST", "DIVZERO", "RANGE")
 
 @dataclass
 class Row:
-    """A row of a table."""
+    """A row of a table, with its test input where it has one."""
 
     decisions: tuple[bool, ...]
     forms: tuple[Form, ...]
     stop: Stop
     values: tuple[Normal, ...]
+    input: State | None
 
 
 @dataclass
@@ -52,12 +53,16 @@ def forms_of(path: Path) -> tuple[Form, ...]:
 
 
 def rows_of(region: Region, ranges: Ranges) -> list[Row]:
-    """The rows of a region: its paths that are not plainly refuted."""
+    """The rows of a region: its paths that are not plainly refuted. The test input of a row is its least one, if that takes it."""
     rows = []
     for path in region.paths(long=False):
         forms = forms_of(path)
-        if least_input(ranges, forms) is not None:
-            rows.append(Row(path.decisions, forms, path.stop, tuple(norm(value) for value in path.values)))
+        least = least_input(ranges, forms)
+        if least is None:
+            continue
+        taken = takes(region.procedure, region.first, least, path.decisions, path.stop, region.heads)
+        values = tuple(norm(value) for value in path.values)
+        rows.append(Row(path.decisions, forms, path.stop, values, least if taken else None))
     return rows
 
 

@@ -2,6 +2,8 @@
 
 from __future__ import annotations
 
+from typing import Container
+
 from model.program import CheckedProcedure, Expression, Line, Place, quotient, remainder
 from model.terms import holds
 from model.ways import Stop
@@ -123,8 +125,15 @@ def step(procedure: CheckedProcedure, number: int, state: State) -> Step:
     return number + 1, None, changed, tuple(evaluation.decisions)
 
 
-def takes(procedure: CheckedProcedure, first: int, state: State, decisions: tuple[bool, ...], stop: Stop) -> bool:
-    """Whether the steps from a line take these decisions and then halt with this stop."""
+def takes(
+    procedure: CheckedProcedure,
+    first: int,
+    state: State,
+    decisions: tuple[bool, ...],
+    stop: Stop,
+    heads: Container[int] = (),
+) -> bool:
+    """Whether the steps from a line, up to a halt or to the first of the heads, take these decisions and stop so."""
     line: int | None = first
     left = decisions
     for _ in range(2 * len(procedure.lines) + 2):
@@ -133,6 +142,8 @@ def takes(procedure: CheckedProcedure, first: int, state: State, decisions: tupl
         if left[: len(taken)] != taken:
             return False
         left = left[len(taken) :]
+        if line is not None and line in heads:
+            halt = ("HEAD", line)
         if halt is not None:
             return not left and halt == stop
     return False

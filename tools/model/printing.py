@@ -9,12 +9,15 @@ from model.findings import Finding, Row, Threat, findings_of
 from model.flowing import flows_of
 from model.graphs import Control, Graph, control_of, graph_of
 from model.intervals import Derivation, derive
+from model.machine import State
 from model.program import CheckedProcedure, CheckedText
 from model.terms import atom_of, normal_of, text_of, text_of_form
 from model.usage import data_use
 from model.ways import Stop
 
-SECTIONS = ("CONTROL", "USE", "FLOW", "PATHS", "SEMANTIC", "COMPLIANCE")
+SECTIONS = ("CONTROL", "USE", "FLOW", "PATHS", "SEMANTIC", "INPUTS", "COMPLIANCE")
+SIX = tuple(section for section in SECTIONS if section != "INPUTS")
+"""The six reports, which are written where no section is asked for."""
 
 
 def lines_text(lines: list[int]) -> str:
@@ -105,11 +108,23 @@ def semantic_lines(findings: list[Finding], names: list[str]) -> Iterator[str]:
             yield from row_lines(number, row, names)
 
 
+def input_text(values: State, names: list[str]) -> str:
+    """The value of each place."""
+    return ", ".join(f"{name} = {value}" for name, value in zip(names, values)) or "EMPTY"
+
+
+def input_lines(findings: list[Finding], names: list[str]) -> Iterator[str]:
+    """The section on test inputs."""
+    for finding in findings:
+        yield region_line(finding)
+        for number, row in enumerate(finding.rows, 1):
+            yield f"ROW {number} INPUT {'-' if row.input is None else input_text(row.input, names)}"
+
+
 def verdict_text(threat: Threat, names: list[str]) -> str:
     """A verdict with its evidence."""
     if threat.verdict == "SHOWN":
-        shown = ", ".join(f"{name} = {value}" for name, value in zip(names, threat.shown))
-        return f"SHOWN {shown or 'EMPTY'}"
+        return f"SHOWN {input_text(threat.shown, names)}"
     if threat.open_form is not None:
         return f"OPEN {text_of_form(threat.open_form, names)}"
     return threat.verdict
@@ -153,6 +168,8 @@ def procedure_lines(procedure: CheckedProcedure, sections: tuple[str, ...]) -> t
             lines.extend(path_lines(graph, derivation))
         elif section == "SEMANTIC":
             lines.extend(semantic_lines(findings, names))
+        elif section == "INPUTS":
+            lines.extend(input_lines(findings, names))
         else:
             lines.extend(compliance_lines(findings, names))
     refuted = all(threat.verdict == "FALSE" for finding in findings for threat in finding.threats)

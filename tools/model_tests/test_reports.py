@@ -9,6 +9,7 @@ from model.command import answer, read_words
 from model.comparing import Answer, difference, shrunk
 from model.exhaustive import faults_of
 from model.inventing import invented
+from model.printing import SIX
 from model.slipping import slipped
 from model_tests import worked
 
@@ -57,6 +58,13 @@ class Reports(unittest.TestCase):
         self.assert_part(text, "STOP END\nx := ((2*x + 128) MOD 256) - 128\n")
         self.assertTrue(answer(text)[0].startswith("MALPAS PROFILE 2\n"))
 
+    def test_inputs(self) -> None:
+        """Test inputs: the least ones, none where the least one takes another row, and no place."""
+        for declarations, body, lines in worked.INPUTS:
+            with self.subTest(body):
+                output, _ = answer(worked.text_of(declarations, body), ("INPUTS",))
+                self.assertIn(f"INPUTS\n{lines}STATUS ", output)
+
     def test_refusals(self) -> None:
         """Changes of a text that is accepted."""
         for before, after, refusal in worked.CHANGES:
@@ -69,6 +77,10 @@ class Reports(unittest.TestCase):
         request = read_words(["--flow", "--control", "--flow"])
         assert request is not None
         self.assertEqual(request.sections, ("CONTROL", "FLOW"))
+        for words, sections in (([], SIX), (["--inputs"], ("INPUTS",))):
+            request = read_words(words)
+            assert request is not None
+            self.assertEqual(request.sections, sections)
         for words in (["--nosuch"], ["--generate", "007"], ["--generate"], ["--generate=3", "--generate=3"]):
             self.assertIsNone(read_words(words))
 

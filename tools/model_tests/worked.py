@@ -188,3 +188,15 @@ CHANGES = [
     (b"ENDPROC;\n", b"SKIP;\n" * 996 + b"ENDPROC;\n", "E14 at byte 6108"),
 ]
 """Changes of the first text, each with the refusal that it meets."""
+
+INPUTS = [
+    ("INOUT x : 0 .. 9;", "x := x + 1;", "REGION L0\nROW 1 INPUT x = 0, OLD x = 0\nROW 2 INPUT x = 9, OLD x = 9\n"),
+    ("IN x : 0 .. 9;IN y : 0 .. 9;", "IF x * y > 3;SKIP;ENDIF;", "REGION L0\nROW 1 INPUT -\nROW 2 INPUT x = 0, y = 0\n"),
+    ("", "SKIP;", "REGION L0\nROW 1 INPUT EMPTY\n"),
+    (
+        "LOCAL i : 0 .. 9;",
+        "LOOP;EXIT WHEN i >= 5;i := i + 1;ENDLOOP;",
+        "REGION L0\nROW 1 INPUT i = 0\nREGION L1\nROW 1 INPUT i = 5\nROW 2 INPUT i = 0\n",
+    ),
+]
+"""Declarations, a body, and its test inputs."""

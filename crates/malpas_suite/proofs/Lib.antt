@@ -1,3 +1,4 @@
 mod Regions
 mod Safe
 mod SliceRows
+mod Tried

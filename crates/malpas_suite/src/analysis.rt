@@ -7,8 +7,9 @@ ghost use Rattle.control_flow.specs.Control.{IsControlOf};
 ghost use Rattle.control_flow.specs.declared.control.Shape.TheVariants.{Reducible};
 ghost use Rattle.interval_reduce.specs.Derivation.{IsDerivationOf, Reduces};
 ghost use Rattle.report.specs.Reported.{AreAnalyses, AreAnalysesBy, IsProcReportOf};
-ghost use Rattle.report.specs.Headline.{TellsOfRuns};
+ghost use Rattle.report.specs.Headline.{InputsHaveOneRow, IsSafeWhereClean, SourcesGiveEqualValues, TellsOfRuns};
 
+use crate::inputs::inputs_of;
 use crate::slices::slices_of;
 use crate::tables::tables_of;
 use compliance::threats;
@@ -16,7 +17,7 @@ use control_flow::{Control, Shape, control_of};
 use data_use::data_use;
 use flow_graph::{FlowGraph, build};
 use il_core::{CheckedProc, List, NoMemory};
-use info_flow::flows;
+use info_flow::flows_and_sets;
 use interval_reduce::{Derivation, derive};
 use path_expr::paths;
 use report::{Analyses, ProcReport};
@@ -40,17 +41,23 @@ fn analyses_of(
     requires derivation { IsDerivationOf (graph_of (procedure_of proc.now)) control.now.shape derivation.now }
     requires reduces { Reduces graph.now control.now.shape derivation.now }
     ensures analyses { IfOk result (AreAnalyses (procedure_of proc.now) control.now.loops derivation.now.order) }
-    ensures runs { IfOk result (TellsOfRuns (procedure_of proc.now) control.now.loops) }
+    ensures one_row { IfOk result (InputsHaveOneRow (procedure_of proc.now) control.now.loops) }
+    ensures safe { IfOk result (IsSafeWhereClean (procedure_of proc.now) control.now.loops) }
+    ensures equal_values { IfOk result (SourcesGiveEqualValues (procedure_of proc.now) control.now.loops) }
 {
     let places = proc.places().as_slice();
     let order = derivation.order.as_slice();
     let tests = lower(alloc, proc)?;
+    let found = flows_and_sets(alloc, graph, places, order)?;
+    let tables = tables_of(alloc, proc, &tests, control, derivation)?;
+    let inputs = inputs_of(alloc, proc, control, tables.as_slice())?;
     Ok(Analyses {
         paths: paths(alloc, graph, order)?,
         usage: data_use(alloc, graph, places, order)?,
-        flows: flows(alloc, graph, places, order)?,
-        slices: slices_of(alloc, proc, graph, places, order)?,
-        tables: tables_of(alloc, proc, &tests, control, derivation)?,
+        slices: slices_of(alloc, proc, graph, found.sets.as_slice())?,
+        flows: found.flows,
+        tables,
+        inputs,
         threats: threats(alloc, proc, &tests, control, derivation)?,
     })
 }
@@ -95,8 +102,8 @@ fn analyses_by(
 /// states agree on the sources of a row of flow, end with equal values of its variable.
 ///
 /// The structure and the derivation take time at most quadratic in the lines, and the rest that of `paths`, `data_use`,
-/// `flows`, `slice`, `table` and `threats`: eliminations, for each variable rounds of questions about tests, and walks over the
-/// paths of the regions, of which each has at most 16,384 within its size. The only error is `NoMemory`.
+/// `flows`, `outline`, `table` and `threats`: eliminations, for each variable rounds of questions about tests and one
+/// breadth-first search, and walks over the paths of the regions, of which each has at most 16,384 within its size. The only error is `NoMemory`.
 pub fn analyse_proc(alloc: Global, proc: &CheckedProc) -> Result<ProcReport, NoMemory>
     ensures report { IfOk result (IsProcReportOf (text_procedure proc.now)) }
     ensures runs { IfOk result (λ r. IfSome r.analyses (TellsOfRuns (procedure_of proc.now) r.control.loops)) }

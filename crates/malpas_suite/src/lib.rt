@@ -6,6 +6,7 @@
 #![tactic(auto)]
 
 mod analysis;
+mod inputs;
 mod slices;
 mod tables;
 mod whole;

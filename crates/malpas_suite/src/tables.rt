@@ -1,5 +1,5 @@
 //! The tables of the regions of a procedure.
-ghost use Rattle.std.specs.Prelude.{◌≡◌, IfOk};
+ghost use Rattle.std.specs.Prelude.{◌≡◌, IfOk, length};
 ghost use Rattle.il_core.specs.LineGraph.{IsIn};
 ghost use Rattle.il_core.specs.Checked.{procedure_of};
 ghost use Rattle.flow_graph.specs.Graph.{graph_of};
@@ -9,9 +9,11 @@ ghost use Rattle.interval_reduce.specs.Derivation.{IsDerivationOf};
 ghost use Rattle.test_graph.specs.Lowered.{IsLowered};
 ghost use Rattle.region_paths.specs.Region.{first_lines};
 ghost use Rattle.semantic_tables.specs.Table.{IsTable};
+ghost use Rattle.semantic_tables.specs.Fit.{HaveSoundLiterals};
 ghost use Rattle.semantic_tables.specs.OneRow.{OneRowEach};
 ghost use Rattle.report.specs.Reported.{AreTables};
 ghost use Rattle.report.specs.Headline.{HaveOneRow};
+ghost use Rattle.report.specs.declared.report.RegionTable.{RegionTable};
 
 use control_flow::Control;
 use il_core::{CheckedProc, List, NoMemory};
@@ -38,6 +40,7 @@ fn region_table(
     ensures region { IfOk result (λ t. t.pc ≡ pc) }
     ensures rows { IfOk result (λ t. IsTable (procedure_of proc.now) control.now.loops t.pc t.body) }
     ensures one { IfOk result (λ t. OneRowEach (procedure_of proc.now) control.now.loops t.pc t.body) }
+    ensures fits { IfOk result (λ t. HaveSoundLiterals (length proc.now.places) t.body) }
 {
     let body = table(alloc, proc, tests, control, derivation, pc)?;
     Ok(RegionTable { pc, body })
@@ -58,6 +61,7 @@ pub(crate) fn tables_of(
     requires derivation { IsDerivationOf (graph_of (procedure_of proc.now)) control.now.shape derivation.now }
     ensures tables { IfOk result (AreTables (procedure_of proc.now) control.now.loops) }
     ensures one { IfOk result (HaveOneRow (procedure_of proc.now) control.now.loops) }
+    ensures fits { IfOk result (λ tables. (t : RegionTable) → IsIn tables t → HaveSoundLiterals (length proc.now.places) t.body) }
 {
     let mut tables = List::new(alloc);
     let first = region_table(alloc, proc, tests, control, derivation, 0)?;

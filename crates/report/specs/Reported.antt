@@ -1,6 +1,6 @@
 -- The report of a procedure: its name, places, lines and arcs, its control structure and its reduction by intervals, and, exactly where it is
--- reducible, its paths, the use of its variables, the flow of information, the slice for each variable, the table of each region and the threats with
--- their verdicts. The report of a text, or of its first procedures, has the text's title and profile.
+-- reducible, its paths, the use of its variables, the flow of information, the slice for each variable, the table of each region with the test inputs
+-- of its rows, and the threats with their verdicts. The report of a text, or of its first procedures, has the text's title and profile.
 use Rattle.std.specs.Prelude.{◌≡◌, ◌≤◌, ℕ, List, [], ◌∷◌, length, map, take, Option, None, Some}
 use Rattle.compliance.specs.Safe.{AreThreatsOf}
 use Rattle.control_flow.specs.Control.{IsControlOf}
@@ -18,6 +18,7 @@ use Rattle.interval_reduce.specs.Derivation.{IsDerivationOf, Reduces}
 use Rattle.path_expr.specs.Report.{IsPathReportOf, WordsArePaths}
 use Rattle.region_paths.specs.Region.{first_lines}
 use Rattle.semantic_tables.specs.Table.{IsTable}
+use Rattle.report.specs.Inputs.{AreInputs}
 use Rattle.report.specs.Sliced.{AreSlices}
 use Rattle.report.specs.declared.report.RegionTable.{RegionTable}
 use Rattle.report.specs.declared.report.Analyses.{Analyses}
@@ -38,6 +39,7 @@ pub record AreAnalyses (p : Procedure) (loops : List LoopInfo) (order : List ℕ
   pub flows : AreFlows (graph_of p) p.places a.flows
   pub slices : AreSlices (graph_of p) p.places a.slices
   pub tables : AreTables p loops a.tables
+  pub inputs : AreInputs p loops a.tables a.inputs
   pub threats : AreThreatsOf p loops (first_lines loops) a.threats
 
 -- they are there exactly where the shape is reducible

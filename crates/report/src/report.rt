@@ -18,6 +18,15 @@ pub struct RegionTable {
     pub body: TableOr,
 }
 
+/// The test inputs of a region within its size.
+#[derive(Drop)]
+pub struct RegionInputs {
+    /// The first line of the region.
+    pub pc: usize,
+    /// The test input of each row of its table, in order: the value of each place; `None` where the row has none.
+    pub rows: List<Option<List<i64>>>,
+}
+
 /// What the slice for one variable keeps and fixes.
 #[derive(Drop)]
 pub struct SliceRow {
@@ -42,6 +51,8 @@ pub struct Analyses {
     pub slices: List<SliceRow>,
     /// The table of each region, by their first lines.
     pub tables: List<RegionTable>,
+    /// The test inputs of each region within its size, by their first lines.
+    pub inputs: List<RegionInputs>,
     /// The threats of all regions within their size, in order, each with its verdict.
     pub threats: List<Threat>,
 }

@@ -6,6 +6,7 @@ use Rattle.report.specs.declared.report.ProcReport.{ProcReport}
 use Rattle.report.specs.declared.report.Report.{Report}
 use Rattle.request.specs.declared.selection.Selection.{Selection}
 use Rattle.report_text.specs.Sections.{control_text, usage_text, flows_text, paths_text}
+use Rattle.report_text.specs.Inputs.{inputs_text}
 use Rattle.report_text.specs.Slices.{slices_text}
 use Rattle.report_text.specs.Tables.{tables_text}
 use Rattle.report_text.specs.Threats.{threats_text}
@@ -37,6 +38,9 @@ paths_section p = elim p.analyses [ None ↦ codes "PATHS\n" ++ not_reported | S
 unfoldable pub semantic_section : ProcReport → List ℕ
 semantic_section p = elim p.analyses [ None ↦ codes "SEMANTIC\n" ++ not_reported | Some a ↦ tables_text p.places a.tables ]
 
+unfoldable pub inputs_section : ProcReport → List ℕ
+inputs_section p = elim p.analyses [ None ↦ codes "INPUTS\n" ++ not_reported | Some a ↦ inputs_text p.places a.tables a.inputs ]
+
 unfoldable pub compliance_section : ProcReport → List ℕ
 compliance_section p = elim p.analyses [ None ↦ codes "COMPLIANCE\n" ++ not_reported | Some a ↦ threats_text p.places a.tables a.threats ]
 
@@ -48,7 +52,7 @@ title_text p = codes "PROCEDURE " ++ p.name ++ codes " LINES " ++ decimal p.line
 unfoldable pub part_text : Selection → ProcReport → List ℕ
 part_text selection p = title_text p ++ chosen selection.control (control_text p.control p.derivation) ++ chosen selection.usage (usage_section p)
     ++ chosen selection.flow (flow_section p) ++ chosen selection.slice (slice_section p) ++ chosen selection.paths (paths_section p)
-    ++ chosen selection.semantic (semantic_section p) ++ chosen selection.compliance (compliance_section p)
+    ++ chosen selection.semantic (semantic_section p) ++ chosen selection.inputs (inputs_section p) ++ chosen selection.compliance (compliance_section p)
 
 -- the last line
 unfoldable pub end_text : ℕ → List ℕ

@@ -2,13 +2,13 @@ ghost use Rattle.std.specs.Prelude.{◌≡◌};
 ghost use Rattle.il_edge.specs.Faults.{HasCause};
 ghost use Rattle.il_edge.specs.Known.{SameTold};
 ghost use Rattle.form_text.specs.Pieces.{Puts, Writes};
-ghost use Rattle.report_text.specs.Report.{chosen, compliance_section, flow_section, part_text, paths_section, semantic_section, slice_section, title_text, usage_section};
+ghost use Rattle.report_text.specs.Report.{chosen, compliance_section, flow_section, inputs_section, part_text, paths_section, semantic_section, slice_section, title_text, usage_section};
 ghost use Rattle.report_text.specs.Sections.{control_text};
 
 use crate::control::put_control;
 use crate::sections::{
-    put_compliance_section, put_flow_section, put_paths_section, put_semantic_section,
-    put_slice_section, put_usage_section,
+    put_compliance_section, put_flow_section, put_inputs_section, put_paths_section,
+    put_semantic_section, put_slice_section, put_usage_section,
 };
 use form_text::put;
 use il_edge::{Failed, Sink};
@@ -116,6 +116,16 @@ fn put_chosen_semantic<K: Sink>(
     }
 }
 
+fn put_chosen_inputs<K: Sink>(selected: bool, part: &ProcReport, sink: &mut K) -> Result<(), Failed>
+    ensures { Puts K.held K.settled K.faults sink.old sink.new result (chosen selected (inputs_section part.now)) }
+{
+    if selected {
+        put_inputs_section(part, sink)
+    } else {
+        Ok(())
+    }
+}
+
 fn put_chosen_compliance<K: Sink>(
     selected: bool,
     part: &ProcReport,
@@ -152,5 +162,6 @@ pub fn put_part<K: Sink>(
     put_chosen_slice(selection.slice, part, sink)?;
     put_chosen_paths(selection.paths, part, sink)?;
     put_chosen_semantic(selection.semantic, part, sink)?;
+    put_chosen_inputs(selection.inputs, part, sink)?;
     put_chosen_compliance(selection.compliance, part, sink)
 }

@@ -2,9 +2,10 @@ ghost use Rattle.std.specs.Prelude.{◌≡◌};
 ghost use Rattle.il_edge.specs.Faults.{HasCause};
 ghost use Rattle.il_edge.specs.Known.{SameTold};
 ghost use Rattle.form_text.specs.Pieces.{Puts, Writes};
-ghost use Rattle.report_text.specs.Report.{compliance_section, flow_section, paths_section, semantic_section, slice_section, usage_section};
+ghost use Rattle.report_text.specs.Report.{compliance_section, flow_section, inputs_section, paths_section, semantic_section, slice_section, usage_section};
 
 use crate::flows::put_flows;
+use crate::inputs::put_inputs;
 use crate::paths::put_paths;
 use crate::slices::put_slices;
 use crate::tables::put_tables;
@@ -77,6 +78,22 @@ pub(crate) fn put_semantic_section<K: Sink>(part: &ProcReport, sink: &mut K) -> 
     match &part.analyses {
         None => put(sink, &[b"SEMANTIC\nNOT REPORTED IRREDUCIBLE\n"]),
         Some(analyses) => put_tables(part.places.as_slice(), analyses.tables.as_slice(), sink),
+    }
+}
+
+/// Writes the section on test inputs, or that it is not given. It fails as the one on use does.
+#[tactic(auto, unfolding(crate::specs::Report::inputs_section))]
+pub(crate) fn put_inputs_section<K: Sink>(part: &ProcReport, sink: &mut K) -> Result<(), Failed>
+    ensures { Puts K.held K.settled K.faults sink.old sink.new result (inputs_section part.now) }
+{
+    match &part.analyses {
+        None => put(sink, &[b"INPUTS\nNOT REPORTED IRREDUCIBLE\n"]),
+        Some(analyses) => put_inputs(
+            part.places.as_slice(),
+            analyses.tables.as_slice(),
+            analyses.inputs.as_slice(),
+            sink,
+        ),
     }
 }
 

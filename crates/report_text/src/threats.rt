@@ -48,7 +48,11 @@ fn put_other_values<K: Sink>(places: &[Place], values: &[i64], sink: &mut K) -> 
 }
 
 /// Writes an input, the value of each place in order.
-fn put_input<K: Sink>(places: &[Place], values: &[i64], sink: &mut K) -> Result<(), Failed>
+pub(crate) fn put_input<K: Sink>(
+    places: &[Place],
+    values: &[i64],
+    sink: &mut K,
+) -> Result<(), Failed>
     ensures { Puts K.held K.settled K.faults sink.old sink.new result (input_text places.now values.now) }
 {
     match values.split_first() {

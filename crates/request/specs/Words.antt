@@ -3,7 +3,7 @@ use Rattle.std.specs.Prelude.{◌≡◌, ℕ, ◌≤◌, Bool, true, false, List
 use Rattle.std.specs.List.{flat_map, list_any}
 use Rattle.request.specs.declared.selection.Selection.{Selection}
 use Rattle.request.specs.declared.section.Section.{Section}
-use Rattle.request.specs.declared.section.Section.TheVariants.{Control, Usage, Flow, Slice, Paths, Semantic, Compliance}
+use Rattle.request.specs.declared.section.Section.TheVariants.{Control, Usage, Flow, Slice, Paths, Semantic, Inputs, Compliance}
 use Rattle.request.specs.declared.spelt.Request.{Request}
 
 -- what one or two words ask for: a section, or a text of this number, which is told apart or in the same word
@@ -20,6 +20,7 @@ section_word Flow = codes "--flow"
 section_word Slice = codes "--slice"
 section_word Paths = codes "--paths"
 section_word Semantic = codes "--semantic"
+section_word Inputs = codes "--inputs"
 section_word Compliance = codes "--compliance"
 
 -- the words of a wish
@@ -64,6 +65,10 @@ abbrev pub is_semantic : Section → Bool
 is_semantic Semantic = true
 is_semantic _ = false
 
+abbrev pub is_inputs : Section → Bool
+is_inputs Inputs = true
+is_inputs _ = false
+
 abbrev pub is_compliance : Section → Bool
 is_compliance Compliance = true
 is_compliance _ = false
@@ -77,12 +82,22 @@ named sections = record {
   slice = list_any is_slice sections;
   paths = list_any is_paths sections;
   semantic = list_any is_semantic sections;
+  inputs = list_any is_inputs sections;
   compliance = list_any is_compliance sections;
 }
 
--- the six reports: each section but the slices
+-- the six reports: each section but the slices and the test inputs
 abbrev pub six_reports : Selection
-six_reports = record { control = true; usage = true; flow = true; slice = false; paths = true; semantic = true; compliance = true }
+six_reports = record {
+  control = true;
+  usage = true;
+  flow = true;
+  slice = false;
+  paths = true;
+  semantic = true;
+  inputs = false;
+  compliance = true;
+}
 
 -- the sections that are asked for, or the six reports where none is
 abbrev pub selected : List Section → Selection

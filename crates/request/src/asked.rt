@@ -32,10 +32,11 @@ const NONE: Selection = Selection {
     slice: false,
     paths: false,
     semantic: false,
+    inputs: false,
     compliance: false,
 };
 
-/// The six reports: each section but the slices.
+/// The six reports: each section but the slices and the test inputs.
 const SIX: Selection = Selection {
     control: true,
     usage: true,
@@ -43,6 +44,7 @@ const SIX: Selection = Selection {
     slice: false,
     paths: true,
     semantic: true,
+    inputs: false,
     compliance: true,
 };
 
@@ -63,6 +65,7 @@ fn with_section(sections: Selection, section: Section) -> Selection
         Section::Slice => sections.slice = true,
         Section::Paths => sections.paths = true,
         Section::Semantic => sections.semantic = true,
+        Section::Inputs => sections.inputs = true,
         Section::Compliance => sections.compliance = true,
     }
     sections

@@ -10,6 +10,7 @@ pub(crate) enum Section {
     Slice,
     Paths,
     Semantic,
+    Inputs,
     Compliance,
 }
 
@@ -25,6 +26,7 @@ pub(crate) fn section_of(word: &str) -> Option<Section>
         "--slice" => Some(Section::Slice),
         "--paths" => Some(Section::Paths),
         "--semantic" => Some(Section::Semantic),
+        "--inputs" => Some(Section::Inputs),
         "--compliance" => Some(Section::Compliance),
         _ => None,
     }

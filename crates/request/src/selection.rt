@@ -13,6 +13,8 @@ pub struct Selection {
     pub paths: bool,
     /// The tables of the regions.
     pub semantic: bool,
+    /// The test inputs of the rows.
+    pub inputs: bool,
     /// The threats, with their verdicts.
     pub compliance: bool,
 }

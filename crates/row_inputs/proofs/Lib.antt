@@ -1,3 +1,4 @@
+pub mod Marked
 pub mod Stepped
 pub mod Taking
 pub mod Few

@@ -16,7 +16,7 @@ use Rattle.path_inputs.specs.Least.{IsPlainlyRefuted, IsLeastInput}
 use Rattle.path_inputs.specs.Laws.{AreInCore, LeastMeetsCore}
 use Rattle.semantic_tables.specs.Row.{NormalRow, forms_of, row_of, normal_row}
 use Rattle.semantic_tables.specs.declared.row.Row.{Row}
-use Rattle.row_inputs.specs.Input.{TakesRow, HasNoTestInput, TestInputIs, TestInputsAre}
+use Rattle.row_inputs.specs.Input.{TakesRow, IsTestInput, HasNoTestInput, TestInputIs, TestInputsAre}
 use Rattle.row_inputs.proofs.Stepped.{TakesWithin}
 use Rattle.row_inputs.proofs.Few.{few}
 use Rattle.row_inputs.proofs.Taking.{input_in_range, row_taken}
@@ -57,6 +57,20 @@ no_input p loops pc row s places literals input path room answer b e_places e_li
 
     never : TakesRow p loops pc s (row_of row) → ⊥
     never t = not_true answer untaken (says.1 (within t))
+
+-- a least input that takes the row in few steps is its test input
+pub has_input : (p : Procedure) (loops : List LoopInfo) (pc : ℕ) (row : Row) (s : State) (places : List Place) (literals : List LitForm) (input : State) (path : List Bool) (room : ℕ)
+    (answer : Bool) → places ≡ p.places → literals ≡ row.literals → input ≡ s → path ≡ row.path → IsLeastInput places pc (map literal_form_of literals) s
+    → IsTrue answer ↔ TakesWithin p loops room pc input path row.stop → answer ≡ true → IsTestInput p loops pc (row_of row) s
+has_input p loops pc row s places literals input path room answer e_places e_literals e_input e_path least says taken = (own, (within.0, within.2))
+  where
+    own : IsLeastInput p.places pc (map literal_form_of row.literals) s
+    own = subst (λ x. IsLeastInput p.places pc (map literal_form_of x) s) e_literals (subst (λ x. IsLeastInput x pc (map literal_form_of literals) s) e_places least)
+
+    within : TakesWithin p loops room pc s row.path row.stop
+    within =
+        subst (λ x. TakesWithin p loops room pc x row.path row.stop) e_input
+        (subst (λ x. TakesWithin p loops room pc input x row.stop) e_path (says.0 taken))
 
 -- the next row
 pub inputs_next : (p : Procedure) (loops given : List LoopInfo) (pc : ℕ) (rows : List Row) (i : ℕ) (x : Row) (os after : List (Option State)) (o : Option State) → given ≡ loops

@@ -5,6 +5,7 @@
 #![tactic(auto)]
 
 mod answering;
+mod heads;
 mod laws;
 mod stepping;
 

@@ -13,13 +13,14 @@ use std::alloc::Global;
 use std::test::Fail;
 use sym_simplify::{Atom, Kept, LitForm, Normal, Part};
 
-const NOTHING: Selection = Selection {
+pub const NOTHING: Selection = Selection {
     control: false,
     usage: false,
     flow: false,
     slice: false,
     paths: false,
     semantic: false,
+    inputs: false,
     compliance: false,
 };
 
@@ -78,7 +79,11 @@ fn path(alloc: Global, decisions: &[bool]) -> Result<List<bool>, NoMemory> {
 }
 
 /// The report of a procedure p with the places n and i, of which only tables and threats are told.
-fn part(alloc: Global, tables: Vec<RegionTable>, threats: Vec<Threat>) -> Result<ProcReport, Fail> {
+pub fn part(
+    alloc: Global,
+    tables: Vec<RegionTable>,
+    threats: Vec<Threat>,
+) -> Result<ProcReport, Fail> {
     Ok(ProcReport {
         name: Name::new(b"p").ok_or("no name")?,
         places: List::from_vec(vec![in alloc; place(b"n")?, place(b"i")?]?),
@@ -103,6 +108,7 @@ fn part(alloc: Global, tables: Vec<RegionTable>, threats: Vec<Threat>) -> Result
             flows: List::new(alloc),
             slices: List::new(alloc),
             tables: List::from_vec(tables),
+            inputs: List::new(alloc),
             threats: List::from_vec(threats),
         }),
     })

@@ -19,6 +19,7 @@ const NOTHING: Selection = Selection {
     slice: false,
     paths: false,
     semantic: false,
+    inputs: false,
     compliance: false,
 };
 
@@ -82,6 +83,7 @@ fn untold(alloc: Global) -> Analyses {
         flows: List::new(alloc),
         slices: List::new(alloc),
         tables: List::new(alloc),
+        inputs: List::new(alloc),
         threats: List::new(alloc),
     }
 }
@@ -171,13 +173,14 @@ fn writes_the_part_of_an_irreducible_procedure(rt: HostRuntime) -> Result<(), Fa
         slice: true,
         paths: true,
         semantic: true,
+        inputs: true,
         compliance: true,
     };
     let mut sink = SureSink::new(rt.alloc(), 400)?;
     put_part(&part, selection, &mut sink)?;
     assert_eq!(rt;
         sink.held(),
-        b"PROCEDURE Hold LINES 6\nCONTROL\nUNREACHABLE -\nSTUCK L4 L5\nSHAPE TWO ENTRIES\nCYCLE L2 L3\nFIRST L0 L1 L2\nSECOND L0 L1 L3\nUSE\nNOT REPORTED IRREDUCIBLE\nSLICE\nNOT REPORTED IRREDUCIBLE\nPATHS\nNOT REPORTED IRREDUCIBLE\nSEMANTIC\nNOT REPORTED IRREDUCIBLE\nCOMPLIANCE\nNOT REPORTED IRREDUCIBLE\n".as_slice()
+        b"PROCEDURE Hold LINES 6\nCONTROL\nUNREACHABLE -\nSTUCK L4 L5\nSHAPE TWO ENTRIES\nCYCLE L2 L3\nFIRST L0 L1 L2\nSECOND L0 L1 L3\nUSE\nNOT REPORTED IRREDUCIBLE\nSLICE\nNOT REPORTED IRREDUCIBLE\nPATHS\nNOT REPORTED IRREDUCIBLE\nSEMANTIC\nNOT REPORTED IRREDUCIBLE\nINPUTS\nNOT REPORTED IRREDUCIBLE\nCOMPLIANCE\nNOT REPORTED IRREDUCIBLE\n".as_slice()
     );
     Ok(())
 }

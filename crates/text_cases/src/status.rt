@@ -93,6 +93,7 @@ fn part(alloc: Global, body: TableOr, threats: List<Threat>) -> Result<ProcRepor
             flows: List::new(alloc),
             slices: List::new(alloc),
             tables: List::from_vec(vec![in alloc; RegionTable { pc: 0, body }]?),
+            inputs: List::new(alloc),
             threats,
         }),
     })

@@ -16,6 +16,7 @@ const TABLES: Selection = Selection {
     slice: false,
     paths: false,
     semantic: true,
+    inputs: false,
     compliance: true,
 };
 

@@ -5,7 +5,7 @@ use std::alloc::Global;
 use std::test::Fail;
 
 /// Words, and what they ask for: the letters of the sections that are selected (control C, use U, flow F, paths P,
-/// semantic S, compliance M), and the number of the text that is to be made, 0 where a text is read.
+/// semantic S, inputs I, compliance M), and the number of the text that is to be made, 0 where a text is read.
 type Asked<'a> = (&'a [&'a str], &'a str, u8);
 
 /// Report words: any order, repeats allowed; no report word means all.
@@ -18,7 +18,10 @@ const REPORTS: &[Asked<'_>] = &[
     (&["--slice", "--flow"], "FL", 0),
     (&["--paths"], "P", 0),
     (&["--semantic"], "S", 0),
+    (&["--inputs"], "I", 0),
+    (&["--inputs", "--semantic"], "SI", 0),
     (&["--compliance"], "M", 0),
+    (&["--inputs", "--slice", "--inputs"], "LI", 0),
     (&["--flow", "--flow"], "F", 0),
     (&["--flow", "--use"], "UF", 0),
     (&["--use", "--flow"], "UF", 0),
@@ -58,6 +61,7 @@ const NUMBERS: &[Asked<'_>] = &[
     (&["--flow", "--generate", "3", "--use"], "UF", 3),
     (&["--generate", "3", "--flow"], "F", 3),
     (&["--flow", "--generate=3"], "F", 3),
+    (&["--inputs", "--generate=3", "--slice"], "LI", 3),
     (&["--flow", "--flow", "--generate=20", "--flow"], "F", 20),
 ];
 
@@ -78,6 +82,8 @@ const UNKNOWN: &[&[&str]] = &[
     &["--flow="],
     &["--flows"],
     &["--flo"],
+    &["--input"],
+    &["--inputs=1"],
     &["--flow", "--nosuch"],
     &["--nosuch", "--flow"],
     &["3"],
@@ -134,6 +140,7 @@ fn selection_of(letters: &str) -> Selection {
         slice: letters.contains('L'),
         paths: letters.contains('P'),
         semantic: letters.contains('S'),
+        inputs: letters.contains('I'),
         compliance: letters.contains('M'),
     }
 }
