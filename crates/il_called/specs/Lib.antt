@@ -1,0 +1,4 @@
+pub mod Called
+pub mod Expansion
+pub mod CalledText
+pub mod WorkedExpansion
