@@ -5,7 +5,7 @@ from __future__ import annotations
 import re
 from dataclasses import dataclass
 from itertools import combinations, permutations
-from typing import Iterator, Optional
+from typing import Callable, Iterator, Optional
 
 from assess_lib.expressions import RELATIONS, Expression, NotRead, Pair, Range, Scope, Signed, read_expression, scope_of
 from assess_lib.outline import Mode, Outline, Procedure
@@ -65,6 +65,7 @@ class Forms:
         return [
             Stage("values and order", _each_once(self._first()), 60),
             Stage("differences", _each_once(self._differences()), 90),
+            Stage("fixed values", _each_once(self._fixed_values()), 90),
             Stage("conditions", _each_once(self._conditions()), 4),
             Stage("alternatives", _each_once(self._alternatives()), 3),
             Stage("sums", _each_once(self._sums())[:240], 80),
@@ -106,14 +107,25 @@ class Forms:
         yield from self._precondition()
         yield from self._values()
         whole = self._whole()
-        moving = [name for name in whole if name not in self._fixed and not name.startswith("OLD ")]
         for left, right in combinations(whole, 2):
             yield Form(f"{left} = {right}", f"{left} - {right}", 0, 0)
         for left, right in combinations(whole, 2):
             yield Form(f"{left} <= {right}", f"{left} - {right}", None, 0)
             yield Form(f"{left} >= {right}", f"{left} - {right}", 0, None)
-        for name in moving:
+        for name in filter(self._moves, whole):
             yield from self._bounds(name, whole[name])
+
+    def _moves(self, place: str) -> bool:
+        """Whether a step can change a place."""
+        return place not in self._fixed and not place.startswith("OLD ")
+
+    def _fixed_values(self) -> Iterator[Form]:
+        """What no step can change: a variable of mode IN or an OLD one against a number, and two of mode IN that differ by one."""
+        whole = self._whole()
+        for name in whole:
+            if not self._moves(name):
+                yield from self._bounds(name, whole[name])
+        yield from self._apart(lambda left, right: left in self._fixed and right in self._fixed)
 
     def _bounds(self, name: str, range_: Range) -> Iterator[Form]:
         """A place against each number inside its range."""
@@ -168,15 +180,23 @@ class Forms:
             return []
 
     def _differences(self) -> Iterator[Form]:
-        """Two places that differ by a number of the text, or by at most one; denials of enumeration values."""
+        """Two places, not both of mode IN, that differ by a number; denials of enumeration values."""
+        yield from self._apart(lambda left, right: not (left in self._fixed and right in self._fixed))
+        for variable in self._procedure.variables:
+            if variable.name in self._scope.variables and self._scope.variables[variable.name].listed:
+                yield from (Form(f"{variable.name} /= {value}") for value in self._values_of(variable.type_text))
+
+    def _apart(self, wanted: Callable[[str, str], bool]) -> Iterator[Form]:
+        """Two places that are wanted and differ by a number of the text, or by one: exactly, at most or at least."""
         whole = self._whole()
         numbers = sorted({number for number in [1, *map(abs, self._numbers)] if number > 0})
+        in_order = set(combinations(whole, 2))
         for number in numbers:
             for left, right in permutations(whole, 2):
-                if left in self._fixed and right in self._fixed:
+                if not wanted(left, right):
                     continue
                 shown = f"{left} {{}} {right} + {_number(number, self._names)}"
-                if (left, right) in set(combinations(whole, 2)):
+                if (left, right) in in_order:
                     term, low, high = f"{left} - {right}", number, number
                 else:
                     term, low, high = f"{right} - {left}", -number, -number
@@ -184,9 +204,6 @@ class Forms:
                 up = left + " - " + right == term
                 yield Form(shown.format("<="), term, None if up else low, high if up else None)
                 yield Form(shown.format(">="), term, low if up else None, None if up else high)
-        for variable in self._procedure.variables:
-            if variable.name in self._scope.variables and self._scope.variables[variable.name].listed:
-                yield from (Form(f"{variable.name} /= {value}") for value in self._values_of(variable.type_text))
 
     def _atoms(self) -> Iterator[Expression]:
         """The conjuncts of POST and PRE, and the tests and assertions of the body."""

@@ -110,6 +110,7 @@ class Templates(unittest.TestCase):
         wanted = {
             "values and order": ["OLD i <= n", "b", "NOT b", "m = loud", "i = n", "i <= OLD i", "i >= 1", "i = top"],
             "differences": ["i = n + 1", "n <= i + top", "i <= n + 1", "m /= calm"],
+            "fixed values": ["n <= 8", "n >= 1", "n = 0", "OLD i = top"],
             "conditions": ["i = n", "i /= n", "i > n"],
             "alternatives": ["b OR m = calm", "m = loud OR i = n"],
             "sums": ["n = i + OLD i", "i + n = top"],
