@@ -1,7 +1,7 @@
 -- The routes are collected arc by arc and line by line, and then the entries route by route.
 use Rattle.std.proofs.Common.{◌≡◌, ◌⊎◌, ◌↔◌, inl, inr, sym, ap, ◌∙◌, subst, ℕ, ◌+◌, ◌<◌, ◌≤◌, Bool, List, [], ◌∷◌, ◌++◌, length, map, take, get_or, arith}
 use Rattle.std.proofs.lemmas.Bool.{cases_lt}
-use Rattle.std.proofs.lemmas.List.{map-append, take_more}
+use Rattle.std.proofs.lemmas.List.{length-map, map-append, take_more}
 use Rattle.il_core.specs.LineGraph.{IsIn}
 use Rattle.flow_graph.specs.Search.{IsMarked, IsUnmarked}
 use Rattle.flow_graph.specs.Reached.{IsReached}
@@ -154,15 +154,25 @@ collected g marks none mid was xs e f size first second a = (
   λ h. (second a).1 (elim h [ inl p ↦ inl ((first a).1 (inr (subst (λ s. IsIn s a) (sym f) p.0, p.1))) | inr p ↦ inr (p.0 ∙ sym size, p.1) ]),
 )
 
+-- one end more
+pub along-more : (was new : List Ends) (e : Ends) (arcs : List Arc) (i : ℕ) (d : Arc) → i < length arcs → was ≡ map ends_along (take i arcs)
+    → e.tail ≡ (get_or arcs i d).tail → e.head ≡ (get_or arcs i d).head → new ≡ was ++ e ∷ [] → new ≡ map ends_along (take (i + 1) arcs)
+along-more was new e arcs i d l before tail head grown =
+    let a = get_or arcs i d in
+    let ends : ◌≡◌ {A = Ends} e (ends_along a) = ap (λ t. record { tail = t; head = e.head }) tail ∙ ap (λ h. record { tail = a.tail; head = h }) head in
+    grown ∙ ap (λ s. s ++ e ∷ []) before ∙ ap (λ x. map ends_along (take i arcs) ++ x ∷ []) ends
+    ∙ sym (ap (map ends_along) (take_more arcs i d l) ∙ map-append ends_along (take i arcs) (a ∷ []))
+
+-- there are as many entries as routes
+pub entries-many : (entries : List (Entry BitRelation)) (arcs : List Arc) → ends_of entries ≡ map ends_along arcs → length entries ≡ length arcs
+entries-many entries arcs e = sym (length-map entries (λ (x : Entry BitRelation). record { tail = x.tail; head = x.head })) ∙ (ap length e ∙ length-map arcs ends_along)
+
 -- one entry more has the ends of its route
 pub ends-more : (was new : List (Entry BitRelation)) (e : Entry BitRelation) (arcs : List Arc) (i : ℕ) (d : Arc) → i < length arcs → ends_of was ≡ map ends_along (take i arcs)
     → e.tail ≡ (get_or arcs i d).tail → e.head ≡ (get_or arcs i d).head → new ≡ was ++ e ∷ [] → ends_of new ≡ map ends_along (take (i + 1) arcs)
 ends-more was new e arcs i d l before tail head grown =
-    let a = get_or arcs i d in
-    let ends : ◌≡◌ {A = Ends} (record { tail = e.tail; head = e.head }) (ends_along a) = ap (λ t. record { tail = t; head = e.head }) tail ∙ ap (λ h. record { tail = a.tail; head = h }) head in
-    ap ends_of grown ∙ map-append (λ (x : Entry BitRelation). record { tail = x.tail; head = x.head }) was (e ∷ [])
-    ∙ ap (λ s. s ++ record { tail = e.tail; head = e.head } ∷ []) before ∙ ap (λ x. map ends_along (take i arcs) ++ x ∷ []) ends
-    ∙ sym (ap (map ends_along) (take_more arcs i d l) ∙ map-append ends_along (take i arcs) (a ∷ []))
+    along-more (ends_of was) (ends_of new) (record { tail = e.tail; head = e.head }) arcs i d l before tail head
+    (ap ends_of grown ∙ map-append (λ (x : Entry BitRelation). record { tail = x.tail; head = x.head }) was (e ∷ []))
 
 -- one entry more carries what its tail does
 pub values-more : (nodes : List Node) (group : List ℕ) (was new : List (Entry BitRelation)) (e : Entry BitRelation) → EachCarries nodes group was

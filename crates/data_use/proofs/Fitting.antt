@@ -52,7 +52,7 @@ module _ (g : FlowGraph) (formed : IsWellFormed g) where
       let two = formed.some_nodes in
       walk_keeps (Joins g.arcs) (λ k. k < length g.nodes) (λ a b l j. (formed.arcs _ j).head_inside) 0 r.0 x r.1 (omega arith)
 
-  module _ (routes : List Arc) (exact : (a : Arc) → IsIn routes a ↔ IsRoute g a) (order : List ℕ) (full : IsFullOrder g order) where
+  module _ (routes : List Arc) (exact : (a : Arc) → IsIn routes a ↔ IsRoute g a) where
     -- the ends of a number are those of a route
     route_at : (ends : List Ends) → ends ≡ map ends_along routes → (k i j : ℕ) → IsArc ends k i j → IsRoute g (record { tail = i; head = j })
     route_at ends e k i j a = (exact _).0 (at routes k (ap (λ s. slice_get s k) (sym e) ∙ a))
@@ -64,16 +64,6 @@ module _ (g : FlowGraph) (formed : IsWellFormed g) where
             inl (ap (λ (x : Ends). record { tail = x.tail; head = x.head }) s)
         at (r ∷ rs) (suc n) p = inr (at rs n p)
 
-    -- a reachable line other than line 0 is in the order
-    ordered : (x : ℕ) → IsReached g.arcs x → x ≢ 0 → IsAmong order x
-    ordered x r n = (among-in order x).1 ((full.exact x).1 (elim (eqb_tells (x + 1) (length g.nodes)) [ inl last ↦ inr last.1 | inr inner ↦ inl (r, n, inner.1) ]))
-
-    -- what is in the order is a line other than line 0
-    in_order : (x : ℕ) → IsAmong order x → (x < length g.nodes) × (x ≢ 0)
-    in_order x i =
-        let two = formed.some_nodes in
-        elim ((full.exact x).0 ((among-in order x).0 i)) [ inl inner ↦ (reached-low x inner.0, inner.1) | inr last ↦ (omega arith, λ z. omega arith) ]
-
     -- the head of a route is a target, or a line other than line 0 that is reachable
     head_of : (i j : ℕ) → IsRoute g (record { tail = i; head = j }) → ((length g.nodes ≡ j) ⊎ (length g.nodes + 1 ≡ j)) ⊎ (IsReached g.arcs j × (j ≢ 0))
     head_of i j r = elim r.1 [
@@ -81,28 +71,39 @@ module _ (g : FlowGraph) (formed : IsWellFormed g) where
       | inr exit ↦ inl (elim exit [ inl e ↦ inl (sym e) | inr e ↦ inr (sym e.0) ])
     ]
 
-    pub routes-fit : (ends : List Ends) → ends ≡ map ends_along routes → (count : ℕ) → count ≡ length g.nodes → FitsArcs (count + 2) ends order 0 (count ∷ (count + 1) ∷ [])
-    routes-fit ends e count size = record {
-      arcs_below = λ k i j a.
-          let r = route_at ends e k i j a in
-          let t = reached-low i r.0 in (
-            omega arith,
-            elim (head_of i j r) [ inl target ↦ elim target [ inl s ↦ omega arith | inr s ↦ omega arith ] | inr inner ↦ let h = reached-low j inner.0 in omega arith ],
-          );
-      order_below = λ x i. let l = (in_order x i).0 in omega arith;
-      start_below = omega arith;
-      targets_below = λ x i. elim i [ inl s ↦ omega arith | inr o ↦ elim o [ inl s ↦ omega arith | inr n ↦ absurd n ] ];
-      targets_differ = (λ i. elim i [ inl s ↦ omega arith | inr n ↦ n ], (λ n. n, tt));
-      order_differs = differ-differ order full.once;
-      start_no_target = λ i. let two = formed.some_nodes in elim i [ inl s ↦ omega arith | inr o ↦ elim o [ inl s ↦ omega arith | inr n ↦ n ] ];
-      start_not_in_order = λ i. (in_order 0 i).1 refl;
-      targets_not_in_order = λ t i o. let l = (in_order t o).0 in elim i [ inl s ↦ omega arith | inr k ↦ elim k [ inl s ↦ omega arith | inr n ↦ n ] ];
-      heads = λ k i j a. elim (head_of i j (route_at ends e k i j a)) [
-        | inl target ↦ inl (elim target [ inl s ↦ inl (size ∙ s) | inr s ↦ inr (inl (ap (λ c. c + 1) size ∙ s)) ])
-        | inr inner ↦ inr (ordered j inner.0 inner.1)
-      ];
-      tails = λ k i j a. let r = route_at ends e k i j a in elim (eqb_tells i 0) [ inl first ↦ inl first.1 | inr other ↦ inr (ordered i r.0 other.1) ];
-    }
+    module _ (order : List ℕ) (full : IsFullOrder g order) where
+      -- a reachable line other than line 0 is in the order
+      ordered : (x : ℕ) → IsReached g.arcs x → x ≢ 0 → IsAmong order x
+      ordered x r n = (among-in order x).1 ((full.exact x).1 (elim (eqb_tells (x + 1) (length g.nodes)) [ inl last ↦ inr last.1 | inr inner ↦ inl (r, n, inner.1) ]))
+
+      -- what is in the order is a line other than line 0
+      in_order : (x : ℕ) → IsAmong order x → (x < length g.nodes) × (x ≢ 0)
+      in_order x i =
+          let two = formed.some_nodes in
+          elim ((full.exact x).0 ((among-in order x).0 i)) [ inl inner ↦ (reached-low x inner.0, inner.1) | inr last ↦ (omega arith, λ z. omega arith) ]
+
+      pub routes-fit : (ends : List Ends) → ends ≡ map ends_along routes → (count : ℕ) → count ≡ length g.nodes → FitsArcs (count + 2) ends order 0 (count ∷ (count + 1) ∷ [])
+      routes-fit ends e count size = record {
+        arcs_below = λ k i j a.
+            let r = route_at ends e k i j a in
+            let t = reached-low i r.0 in (
+              omega arith,
+              elim (head_of i j r) [ inl target ↦ elim target [ inl s ↦ omega arith | inr s ↦ omega arith ] | inr inner ↦ let h = reached-low j inner.0 in omega arith ],
+            );
+        order_below = λ x i. let l = (in_order x i).0 in omega arith;
+        start_below = omega arith;
+        targets_below = λ x i. elim i [ inl s ↦ omega arith | inr o ↦ elim o [ inl s ↦ omega arith | inr n ↦ absurd n ] ];
+        targets_differ = (λ i. elim i [ inl s ↦ omega arith | inr n ↦ n ], (λ n. n, tt));
+        order_differs = differ-differ order full.once;
+        start_no_target = λ i. let two = formed.some_nodes in elim i [ inl s ↦ omega arith | inr o ↦ elim o [ inl s ↦ omega arith | inr n ↦ n ] ];
+        start_not_in_order = λ i. (in_order 0 i).1 refl;
+        targets_not_in_order = λ t i o. let l = (in_order t o).0 in elim i [ inl s ↦ omega arith | inr k ↦ elim k [ inl s ↦ omega arith | inr n ↦ n ] ];
+        heads = λ k i j a. elim (head_of i j (route_at ends e k i j a)) [
+          | inl target ↦ inl (elim target [ inl s ↦ inl (size ∙ s) | inr s ↦ inr (inl (ap (λ c. c + 1) size ∙ s)) ])
+          | inr inner ↦ inr (ordered j inner.0 inner.1)
+        ];
+        tails = λ k i j a. let r = route_at ends e k i j a in elim (eqb_tells i 0) [ inl first ↦ inl first.1 | inr other ↦ inr (ordered i r.0 other.1) ];
+      }
 
     module _ (group : List ℕ) (few : length group ≤ 9) (entries : List (Entry BitRelation)) (ends : ends_of entries ≡ map ends_along routes)
         (each : EachCarries g.nodes group entries) where

@@ -1,5 +1,5 @@
 -- The rows say what the sums tell, one row for each variable.
-use Rattle.std.proofs.Common.{◌≡◌, ◌↔◌, inl, inr, sym, ap, ◌∙◌, subst, ℕ, suc, ◌+◌, ◌*◌, ◌<◌, ◌≤◌, Bool, true, false, Some, List, [], ◌∷◌, ◌++◌, length, map, take, get_or, slice_get, arith, append_assoc}
+use Rattle.std.proofs.Common.{◌≡◌, ◌↔◌, inl, inr, sym, ap, ◌∙◌, subst, ℕ, suc, ◌+◌, ◌*◌, ◌<◌, ◌≤◌, Bool, true, false, Some, List, [], ◌∷◌, ◌++◌, length, map, take, get_or, slice_get, arith, append_assoc, append-nil}
 use Rattle.std.specs.Prelude.{if◌then◌else◌}
 use Rattle.std.proofs.lemmas.List.{map-append, take_more}
 use Rattle.il_core.specs.LineGraph.{IsIn}
@@ -87,6 +87,11 @@ pub rest-low : (places : List Place) (done rest group later : List ℕ) → leng
 rest-low places done rest group later few e f v i =
     let l = variables-low 0 places v (subst (λ s. IsIn s v) e (IsIn-append_right done rest v (subst (λ s. IsIn s v) (sym f) (IsIn-append_left group later v i)))) in
     omega arith
+
+-- where no variable is left the rows are those of all
+pub places-all : (made rest all : List ℕ) → length rest ≡ 0 → made ++ rest ≡ all → made ≡ all
+places-all made [] all none same = sym (append-nil made) ∙ same
+places-all made (v ∷ rest) all none same = absurd (omega (arith, none))
 
 -- the rows of the variables that are not left grow by those of a group
 pub places-more : (g : FlowGraph) (group later rest variables : List ℕ) (old new : List UseRow) → AddsRows g group old new → rest ≡ group ++ later → map place_of old ++ rest ≡ variables

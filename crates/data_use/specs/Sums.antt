@@ -1,12 +1,15 @@
 -- The sum over walks joins two points of a variable where the events of some walk lead from one to the other; the rows are told by it.
-use Rattle.std.specs.Prelude.{◌≡◌, ◌⊎◌, ◌↔◌, ℕ, ◌+◌, ◌*◌, Some, IsTrue, List, ◌++◌, length, map, slice_get}
+use Rattle.std.specs.Prelude.{◌≡◌, ◌⊎◌, ◌↔◌, ℕ, ◌+◌, ◌*◌, Some, IsTrue, List, [], ◌∷◌, ◌++◌, length, map, slice_get}
 use Rattle.il_core.specs.LineGraph.{IsIn}
 use Rattle.flow_graph.specs.Reached.{IsInner, Differ}
 use Rattle.flow_graph.specs.declared.graph.Arc.{Arc}
 use Rattle.flow_graph.specs.declared.graph.Node.{Node}
 use Rattle.flow_graph.specs.declared.graph.FlowGraph.{FlowGraph}
 use Rattle.regular_algebra.specs.Relation.{Joins}
+use Rattle.regular_algebra.specs.Answers.{AreAnswers, AnswersBelow}
+use Rattle.regular_algebra.specs.Words.{EachNamesLower}
 use Rattle.regular_algebra.specs.declared.steps.Ends.{Ends}
+use Rattle.regular_algebra.specs.declared.steps.Plan.{Plan}
 use Rattle.regular_algebra.specs.declared.steps.Entry.{Entry}
 use Rattle.regular_algebra.specs.declared.relation.BitRelation.{BitRelation}
 use Rattle.data_use.specs.Facts.{Happens, HappensToLast, IsUseRow, place_of}
@@ -18,6 +21,12 @@ use Rattle.data_use.specs.declared.row.UseRow.{UseRow}
 -- the ends of an arc
 abbrev pub ends_along : Arc → Ends
 ends_along a = record { tail = a.tail; head = a.head }
+
+-- a plan that answers, over arcs like these, the two targets behind the lines
+pub record IsPlanOf (count : ℕ) (arcs : List Arc) (p : Plan) : Type 0 where
+  pub lower : EachNamesLower (length arcs) p.steps
+  pub below : AnswersBelow (length arcs + length p.steps) p.answers
+  pub answers : AreAnswers (map ends_along arcs) p.steps 0 (count ∷ (count + 1) ∷ []) p.answers
 
 -- the value of each entry carries what its tail does
 abbrev pub EachCarries : List Node → List ℕ → List (Entry BitRelation) → Type 0

@@ -5,17 +5,17 @@ ghost use Rattle.flow_graph.specs.Graph.{IsWellFormed, HasPlaces};
 ghost use Rattle.flow_graph.specs.Reached.{IsInnerOrder};
 ghost use Rattle.regular_algebra.specs.Relation.{Joins};
 ghost use Rattle.data_use.specs.Points.{number};
-ghost use Rattle.data_use.specs.Sums.{TellsRow, AreSums, AddsRows, IsFullOrder};
+ghost use Rattle.data_use.specs.Sums.{TellsRow, AreSums, AddsRows, IsPlanOf};
 ghost use Rattle.data_use.specs.Routes.{IsRoute};
 ghost use Rattle.data_use.specs.Facts.{IsUseRow, variables_from, place_of};
 
 use crate::lines::entries_of;
 use crate::points::{POINTS, Point};
-use crate::routes::routes;
+use crate::routes::{plan_of, routes};
 use crate::row::UseRow;
 use flow_graph::{Arc, FlowGraph, reachable};
 use il_core::{List, NoMemory, Place};
-use regular_algebra::{BitRelation, eliminate};
+use regular_algebra::{BitRelation, Plan, evaluate};
 use std::alloc::Global;
 
 /// How many variables share one relation, which has room for the seven points of nine.
@@ -70,20 +70,18 @@ fn add_group(
     rows: &mut Vec<UseRow>,
     graph: &FlowGraph,
     routes: &[Arc],
-    order: &[usize],
+    plan: &Plan,
     group: &[usize],
 ) -> Result<(), NoMemory>
     requires formed { IsWellFormed graph.now }
     requires routes { (a : Arc) → IsIn routes.now a ↔ IsRoute graph.now a }
-    requires order { IsFullOrder graph.now order.now }
+    requires plan { IsPlanOf (length graph.now.nodes) routes.now plan.now }
     requires few { length group.now ≤ 9 }
     requires low { (v : ℕ) → IsIn group.now v → v < 64 }
     ensures { OnOk result (AddsRows graph.now group.now rows.old.items rows.new.items) }
 {
-    let count = graph.nodes.len();
     let entries = entries_of(alloc, graph.nodes.as_slice(), routes, group)?;
-    let targets = [count, count + 1];
-    let values = eliminate(alloc, count + 2, entries.as_slice(), order, 0, &targets)?;
+    let values = evaluate(alloc, plan, entries.as_slice())?;
     let sums = values.as_slice();
     add_rows(rows, graph, &sums[0], &sums[1], group)?;
     Ok(())
@@ -122,9 +120,9 @@ fn variables(alloc: Global, places: &[Place]) -> Result<Vec<usize>, NoMemory>
 /// The places are those of the graph's nodes. The order has each reachable line but line 0 and the last exactly once; it
 /// changes no fact, only the time that is taken.
 ///
-/// The walks are summed up by elimination (Carré, Graphs and Networks, 1979), once for every nine variables. An
-/// elimination takes a square of cells over the lines and, for each line, time linear in the lines for each line that then
-/// enters it.
+/// The walks are summed up by elimination (Carré, Graphs and Networks, 1979). Its plan is made once: that takes a square
+/// of cells over the lines and, for each line, time linear in the lines for each line that then enters it. The plan's
+/// steps are then taken once for every nine variables.
 pub fn data_use(
     alloc: Global,
     graph: &FlowGraph,
@@ -140,19 +138,13 @@ pub fn data_use(
     let marks = reachable(alloc, graph)?;
     let arcs = routes(alloc, graph, marks.as_slice())?;
     let full = with_last(alloc, order, graph.nodes.len() - 1)?;
+    let plan = plan_of(alloc, graph, arcs.as_slice(), full.as_slice())?;
     let variables = variables(alloc, places)?;
     let mut rows = Vec::new(alloc);
     let mut rest = variables.as_slice();
     while !rest.is_empty() {
         let (group, later) = rest.split_at(rest.len().min(GROUP));
-        add_group(
-            alloc,
-            &mut rows,
-            graph,
-            arcs.as_slice(),
-            full.as_slice(),
-            group,
-        )?;
+        add_group(alloc, &mut rows, graph, arcs.as_slice(), &plan, group)?;
         rest = later;
     }
     Ok(List::from_vec(rows))

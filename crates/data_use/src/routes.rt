@@ -1,13 +1,15 @@
-//! The arcs over which walks are summed up.
-ghost use Rattle.std.specs.Prelude.{◌≡◌, ◌<◌, ◌↔◌, ◌⊎◌, ℕ, length, IfOk, OnOk};
+//! The arcs over which walks are summed up, and the plan by which they are.
+ghost use Rattle.std.specs.Prelude.{◌≡◌, ◌<◌, ◌↔◌, ◌⊎◌, ℕ, length, map, IfOk, OnOk};
 ghost use Rattle.il_core.specs.LineGraph.{IsIn};
 ghost use Rattle.flow_graph.specs.Graph.{IsWellFormed};
 ghost use Rattle.flow_graph.specs.Search.{IsMarked};
 ghost use Rattle.flow_graph.specs.Reached.{IsReached};
 ghost use Rattle.data_use.specs.Routes.{IsRoute};
+ghost use Rattle.data_use.specs.Sums.{ends_along, IsFullOrder, IsPlanOf};
 
 use flow_graph::{Arc, FlowGraph};
 use il_core::NoMemory;
+use regular_algebra::{Ends, Plan, plan};
 use std::alloc::Global;
 
 /// Adds the arcs whose tail is marked.
@@ -57,4 +59,37 @@ pub fn routes(alloc: Global, graph: &FlowGraph, marks: &[bool]) -> Result<Vec<Ar
         })?;
     }
     Ok(routes)
+}
+
+/// The ends of the arcs.
+fn ends_along(alloc: Global, arcs: &[Arc]) -> Result<Vec<Ends>, NoMemory>
+    ensures { IfOk result (λ ends. ends.items ≡ map ends_along arcs.now) }
+{
+    let mut ends = Vec::with_capacity(alloc, arcs.len())?;
+    for arc in arcs {
+        ends.push(Ends {
+            tail: arc.tail,
+            head: arc.head,
+        })?;
+    }
+    Ok(ends)
+}
+
+/// The plan that sums up the walks along the routes to any line, and those to the last line. It serves each group of
+/// variables.
+pub fn plan_of(
+    alloc: Global,
+    graph: &FlowGraph,
+    routes: &[Arc],
+    order: &[usize],
+) -> Result<Plan, NoMemory>
+    requires formed { IsWellFormed graph.now }
+    requires routes { (a : Arc) → IsIn routes.now a ↔ IsRoute graph.now a }
+    requires order { IsFullOrder graph.now order.now }
+    ensures { IfOk result (IsPlanOf (length graph.now.nodes) routes.now) }
+{
+    let count = graph.nodes.len();
+    let ends = ends_along(alloc, routes)?;
+    let targets = [count, count + 1];
+    plan(alloc, count + 2, ends.as_slice(), order, 0, &targets)
 }

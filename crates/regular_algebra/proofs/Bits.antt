@@ -1,9 +1,10 @@
 -- Rows of bits, and a relation that is closed point by point.
-use Rattle.std.proofs.Common.{◌≡◌, refl, sym, ap, ◌∙◌, subst, ℕ, ◌+◌, ◌*◌, ◌^◌, ◌%◌, ◌<◌, ◌⊎◌, ◌↔◌, inl, inr, max, List, length, get_or, set, bit_or, arith, get_or-set_same, get_or-set_other, one-mul, mod-eq_of_lt}
-use Rattle.std.specs.Int.{bit_at}
+use Rattle.std.proofs.Common.{◌≡◌, ◌≢◌, ◌≤◌, ◌-◌, ◌/◌, refl, sym, ap, ◌∙◌, subst, ℕ, ◌+◌, ◌*◌, ◌^◌, ◌%◌, ◌<◌, ◌⊎◌, ◌↔◌, inl, inr, max, List, length, get_or, set, bit_or, arith, get_or-set_same, get_or-set_other, one-mul, mod-eq_of_lt}
+use native.Mathlib.Nat.{div-div-eq-div-mul}
+use Rattle.std.specs.Int.{bit_at, trailing_zeros, w128}
 use Rattle.std.proofs.lemmas.Bool.{cases_order, cases_lt}
-use Rattle.std.proofs.lemmas.Nat.Bits.{bit_at_or, bit_at-lt, bit_at-pow_same, bit_at-pow_other, bit_at-zero}
-use Rattle.std.proofs.lemmas.Nat.{pow_below}
+use Rattle.std.proofs.lemmas.Nat.Bits.{bit_at_or, bit_at-lt, bit_at-pow_same, bit_at-pow_other, bit_at-zero, bit_at-trailing_zeros}
+use Rattle.std.proofs.lemmas.Nat.{pow-add, pow_below}
 use Rattle.regular_algebra.specs.Relations.{Turns, no_turn, a_turn}
 use Rattle.regular_algebra.specs.Relation.{HasBit}
 
@@ -172,6 +173,44 @@ through-more row rows joined added c f g y = (
       ]
       ),
 )
+
+-- points that the row has not change nothing
+pub through-passed : (row : ℕ) (rows : List ℕ) (joined from c : ℕ) → ((y : ℕ) → HasBit joined y ↔ ((d : ℕ) × (d < from) × HasBit row d × HasBit (get_or rows d 0) y))
+    → ((d : ℕ) → from ≤ d → d < c → HasBit row d → ⊥) → from ≤ c → (y : ℕ) → HasBit joined y ↔ ((d : ℕ) × (d < c) × HasBit row d × HasBit (get_or rows d 0) y)
+through-passed row rows joined from c f none low y = (
+  λ h. let r = (f y).0 h in let l = r.1 in (r.0, omega arith, r.2, r.3),
+  λ r. elim (cases_lt r.0 from) [ inl l ↦ (f y).1 (r.0, l, r.2, r.3) | inr l ↦ absurd (none r.0 (omega arith) r.1 r.2) ],
+)
+
+-- a row that is shifted has its later bits
+pub shifted-bit : (row from i : ℕ) → bit_at (row / 2 ^ from) i ≡ bit_at row (from + i)
+shifted-bit row from i = ap (λ q. q % 2) (div-div-eq-div-mul row (2 ^ from) (2 ^ i) ∙ ap (λ p. row / p) (sym (pow-add 2 from i)))
+
+-- the points of a row from `from` on
+abbrev pub IsFirst : ℕ → ℕ → ℕ → Type 0
+IsFirst row from c = (from ≤ c) × HasBit row c × ((d : ℕ) → from ≤ d → d < c → HasBit row d → ⊥)
+
+-- no bit is left
+pub none-left : (row from : ℕ) → row / 2 ^ from ≡ 0 → (d : ℕ) → from ≤ d → HasBit row d → ⊥
+none-left row from e d l h =
+    no-bit (d - from) (subst (λ r. HasBit r (d - from)) e (shifted-bit row from (d - from) ∙ ap (bit_at row) (omega arith) ∙ h))
+
+-- the lowest bit that is left is the first
+pub first-left : (row from : ℕ) → row / 2 ^ from < 2 ^ 128 → row / 2 ^ from ≢ 0 → IsFirst row from (from + trailing_zeros w128 (row / 2 ^ from))
+first-left row from small some =
+    let t = bit_at-trailing_zeros w128 (row / 2 ^ from) (omega (arith, some)) small in (
+      omega arith,
+      sym (shifted-bit row from (trailing_zeros w128 (row / 2 ^ from))) ∙ t.1,
+      λ d low below h.
+          let z = t.2 (d - from) (omega arith) in
+          let o : bit_at (row / 2 ^ from) (d - from) ≡ 1 = shifted-bit row from (d - from) ∙ ap (bit_at row) (omega arith) ∙ h in
+          absurd (omega (arith, z, o)),
+    )
+
+-- points that the row has not are passed over, and one that it has is joined
+pub through-first : (row : ℕ) (rows : List ℕ) (joined from c : ℕ) → ((y : ℕ) → HasBit joined y ↔ ((d : ℕ) × (d < from) × HasBit row d × HasBit (get_or rows d 0) y))
+    → IsFirst row from c → (y : ℕ) → HasBit (bit_or joined (get_or rows c 0)) y ↔ ((d : ℕ) × (d < c + 1) × HasBit row d × HasBit (get_or rows d 0) y)
+through-first row rows joined from c f first = through-more row rows joined (get_or rows c 0) c (through-passed row rows joined from c f (λ d l m. first.2 d l m) first.0) (λ y. (λ h. (first.1, h), λ h. h.1))
 
 -- one more row of a product is made
 pub composed-more : (S T U V : ℕ → ℕ → Type 0) (a made : ℕ) (rows others : List ℕ) → a < 66

@@ -306,28 +306,28 @@ answers-more_joined joins value answers xs grown k o x size h e j f i p y g d =
 
 module _ {P V : Type 0} (is_point : P → Type 0) (joins : V → P → P → Type 0) (points : (x : V) (a b : P) → joins x a b → is_point a × is_point b) (arcs : List (Entry V))
     (steps plan_steps : List Step) (same_steps : steps ≡ plan_steps) (answers plan_answers : List (Option ℕ)) (same_answers : answers ≡ plan_answers)
-    (ends : List Ends) (same_ends : ends ≡ ends_of arcs) (last uses : List ℕ) (same_uses : uses ≡ last) (made slice : List (Option V)) (same_made : slice ≡ made)
+    (last uses : List ℕ) (same_uses : uses ≡ last) (made slice : List (Option V)) (same_made : slice ≡ made)
     (first : ℕ) (same_first : first ≡ length arcs) where
   -- as the code sees it: the values of the answers are there
-  pub answers-there : AreMade is_point joins (values_of arcs) steps uses (length steps) made → AnswersBelow (length ends + length plan_steps) plan_answers
+  pub answers-there : AreMade is_point joins (values_of arcs) steps uses (length steps) made → AnswersBelow (length arcs + length plan_steps) plan_answers
       → AreLastUses first steps answers last → (k v : ℕ) → slice_get answers k ≡ Some (Some v) → IsSome (value_in (values_of arcs) slice v)
   answers-there h below lasts k v e =
-      let count : length ends ≡ length (values_of arcs) = ap length same_ends ∙ length-ends arcs ∙ sym (length-values arcs) in
-      let one : first ≡ length (values_of arcs) = same_first ∙ sym (length-values arcs) in
+      let count : length arcs ≡ length (values_of arcs) = sym (length-values arcs) in
+      let one : first ≡ length (values_of arcs) = same_first ∙ count in
       subst (λ m. IsSome (value_in (values_of arcs) m v)) (sym same_made)
       (answer-there is_point joins points (values_of arcs) steps answers uses made h
       (subst (λ n. AnswersBelow (n + length steps) answers) count
-      (subst (λ s. AnswersBelow (length ends + length s) answers) (sym same_steps) (subst (AnswersBelow (length ends + length plan_steps)) (sym same_answers) below)))
+      (subst (λ s. AnswersBelow (length arcs + length s) answers) (sym same_steps) (subst (AnswersBelow (length arcs + length plan_steps)) (sym same_answers) below)))
       (subst (λ n. AreLastUses n steps answers uses) one (subst (AreLastUses first steps answers) (sym same_uses) lasts)) k v e)
 
   -- as the code sees it: the values that are handed out are right
   pub answers-right : (start : ℕ) (targets : List ℕ) (xs out : List V) → out ≡ xs → AreMade is_point joins (values_of arcs) steps uses (length steps) made
-      → AnswersBelow (length ends + length plan_steps) plan_answers → AreLastUses first steps answers last → AreAnswers ends plan_steps start targets plan_answers
+      → AnswersBelow (length arcs + length plan_steps) plan_answers → AreLastUses first steps answers last → AreAnswers (ends_of arcs) plan_steps start targets plan_answers
       → length xs ≡ length answers → EachAnswerJoins joins (value_in (values_of arcs) slice) answers xs → AnswersJoin is_point joins arcs start targets out
   answers-right start targets xs out same_out h below lasts right count each =
       subst (AnswersJoin is_point joins arcs start targets) (sym same_out)
       (answers-join is_point joins points arcs steps uses made h start targets answers xs (length-ends arcs ∙ sym (length-values arcs))
       (subst (λ s. AreAnswers (ends_of arcs) s start targets answers) (sym same_steps)
-      (subst (AreAnswers (ends_of arcs) plan_steps start targets) (sym same_answers) (subst (λ e. AreAnswers e plan_steps start targets plan_answers) same_ends right)))
+      (subst (AreAnswers (ends_of arcs) plan_steps start targets) (sym same_answers) right))
       (λ k v e. subst (λ m. IsSome (value_in (values_of arcs) m v)) same_made (answers-there h below lasts k v e))
       count (subst (λ m. EachAnswerJoins joins (value_in (values_of arcs) m) answers xs) same_made each))

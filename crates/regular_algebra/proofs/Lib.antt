@@ -4,6 +4,7 @@ pub mod Tables
 pub mod Passes
 pub mod Theorem
 pub mod Starless
+pub mod Marks
 pub mod Cells
 pub mod Turns
 pub mod Sizes

@@ -1,18 +1,23 @@
 //! The board of an elimination: one cell for each pair of nodes, with the number of the value that stands there.
+//!
+//! Most cells are empty. Whether one is stands in a mark of its own, so that a column is looked through in little memory.
 ghost use Rattle.std.specs.Prelude.{◌≡◌, ◌*◌, ◌<◌, vec_len};
 
 use crate::steps::{Ends, Step};
 use il_core::NoMemory;
 use std::alloc::Global;
 
-/// A square of cells over `count` nodes, and the steps so far. Values are numbered from `first`, behind the arcs.
+/// A square of cells over `count` nodes, each with a mark and the number of its value where it is marked, and the steps so
+/// far. Values are numbered from `first`, behind the arcs.
 #[derive(Drop)]
 pub struct Board {
     count: usize,
     first: usize,
-    cells: Vec<Option<usize>>,
+    marks: Vec<bool>,
+    numbers: Vec<usize>,
     steps: Vec<Step>,
-    ghost square: { vec_len cells ≡ count * count },
+    ghost marked: { vec_len marks ≡ count * count },
+    ghost numbered: { vec_len numbers ≡ count * count },
 }
 
 impl Board {
@@ -30,11 +35,13 @@ impl Board {
         ensures first { IfOk result (λ b. b.first ≡ first) }
     {
         let size = count.checked_mul(count).ok_or(NoMemory)?;
-        let cells = vec![in alloc; None; size]?;
+        let marks = vec![in alloc; false; size]?;
+        let numbers = vec![in alloc; 0; size]?;
         Ok(Board {
             count,
             first,
-            cells,
+            marks,
+            numbers,
             steps: Vec::new(alloc),
         })
     }
@@ -45,7 +52,12 @@ impl Board {
         requires column { j < self.now.count }
         ensures { result ≡ (table_of self.now).entry i j }
     {
-        self.cells[i * self.count + j]
+        let at = i * self.count + j;
+        if self.marks[at] {
+            Some(self.numbers[at])
+        } else {
+            None
+        }
     }
 
     /// Gives entry (i, j) another value.
@@ -55,7 +67,14 @@ impl Board {
         ensures table { table_of self.new ≡ put i j value (table_of self.old) }
         ensures sized { SameSize self.old self.new }
     {
-        self.cells[i * self.count + j] = value;
+        let at = i * self.count + j;
+        match value {
+            Some(number) => {
+                self.marks[at] = true;
+                self.numbers[at] = number;
+            }
+            None => self.marks[at] = false,
+        }
     }
 
     /// Adds a step, and answers the number of its value.

@@ -1,13 +1,13 @@
 //! The running of a plan over the values of an algebra.
-ghost use Rattle.std.specs.Prelude.{◌≡◌, ◌+◌, ◌-◌, ◌<◌, ◌≤◌, ◌^◌, ◌⊎◌, ℕ, Some, length, slice_get, slice_index, vec_len, IfOk, IsSome};
+ghost use Rattle.std.specs.Prelude.{◌≡◌, ◌+◌, ◌-◌, ◌<◌, ◌≤◌, ◌^◌, ◌⊎◌, ℕ, Some, List, length, slice_get, slice_index, vec_len, IfOk, IsSome};
 ghost use Rattle.regular_algebra.specs.Words.{EachNamesLower};
-ghost use Rattle.regular_algebra.specs.Answers.{FitsArcs, IsNumberBelow, AnswersBelow};
+ghost use Rattle.regular_algebra.specs.Answers.{FitsArcs, IsNumberBelow, AnswersBelow, AreAnswers};
 ghost use Rattle.regular_algebra.specs.Relations.{ends_of, values_of, AnswersJoin};
 ghost use Rattle.regular_algebra.specs.Run.{value_in, Names, StepJoins, AnswerJoins, AreLastUses, AreMade, IsReleased, UsesAreMarked, AnswersAreMarked, EachAnswerJoins, marked, marked_step, marked_answer};
 
 use crate::algebra::Algebra;
 use crate::planning::plan;
-use crate::steps::{Ends, Entry, Step};
+use crate::steps::{Ends, Entry, Plan, Step};
 use il_core::{List, NoMemory};
 use std::alloc::Global;
 
@@ -28,6 +28,24 @@ pub fn eliminate<A: Algebra>(
 {
     let ends = all_ends(alloc, arcs)?;
     let plan = plan(alloc, count, ends.as_slice(), order, start, targets)?;
+    evaluate(alloc, &plan, arcs)
+}
+
+/// The values of a plan's answers over these arcs: whatever start and targets the plan answers for their ends, each value
+/// joins exactly what some path from the start to its target joins. So a plan that is made once serves all arcs with the
+/// same ends. A value that no later step uses is given up.
+///
+/// The plan names values of these arcs and of its earlier steps alone, as `plan` answers it. The only error is want of
+/// memory.
+pub fn evaluate<A: Algebra>(
+    alloc: Global,
+    plan: &Plan,
+    arcs: &[Entry<A>],
+) -> Result<List<A>, NoMemory>
+    requires lower { EachNamesLower (length arcs.now) plan.now.steps }
+    requires below { AnswersBelow (length arcs.now + length plan.now.steps) plan.now.answers }
+    ensures { IfOk result (λ values. (start : ℕ) (targets : List ℕ) → AreAnswers (ends_of arcs.now) plan.now.steps start targets plan.now.answers → AnswersJoin A.is_point A.joins arcs.now start targets values) }
+{
     let steps = plan.steps.as_slice();
     let answers = plan.answers.as_slice();
     let last = last_uses(alloc, arcs.len(), steps, answers)?;

@@ -2,11 +2,12 @@
 //!
 //! From the arcs of a graph and an order of its nodes, `plan` answers the sums, products and stars by which each node is
 //! eliminated in turn (Kleene 1956; Carré 1971), as plain data that depends on the arcs' ends alone. The words of an
-//! answer are exactly the paths from the start to its target. `eliminate` runs a plan over the values of any `Algebra`,
+//! answer are exactly the paths from the start to its target. `evaluate` runs a plan over the values of any `Algebra`,
 //! and so joins exactly what some path joins; `BitRelation` is the algebra of relations on few points.
 //!
 //! A plan takes a square of cells over the nodes, which is given up once the plan is made, and for each node that is
-//! eliminated time linear in the nodes for each node that enters it. `eliminate` keeps a value until its last use.
+//! eliminated time linear in the nodes for each node that enters it. `evaluate` keeps a value until its last use;
+//! `eliminate` makes a plan and evaluates it at once.
 #![tactic(auto)]
 
 mod algebra;
@@ -17,7 +18,7 @@ mod relation;
 mod steps;
 
 pub use algebra::Algebra;
-pub use elimination::eliminate;
+pub use elimination::{eliminate, evaluate};
 pub use planning::plan;
 pub use relation::BitRelation;
 pub use steps::{Ends, Entry, Plan, Step};

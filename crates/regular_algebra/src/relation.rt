@@ -1,5 +1,5 @@
 //! Relations on few points, as rows of bits.
-ghost use Rattle.std.specs.Prelude.{◌≡◌, ◌<◌, ◌↔◌, ◌⊎◌, ℕ, IsTrue, slice_index};
+ghost use Rattle.std.specs.Prelude.{◌≡◌, ◌<◌, ◌≤◌, ◌↔◌, ◌⊎◌, ℕ, IsTrue, MatchOption, slice_index};
 ghost use Rattle.regular_algebra.specs.Relations.{Turns};
 ghost use Rattle.regular_algebra.specs.Relation.{HasBit, Joins};
 
@@ -11,7 +11,7 @@ use std::alloc::Global;
 const POINTS: usize = 66;
 
 /// A relation on the points 0 to 65. It holds a bit for each pair, so its functions take no memory beside it; `plus` takes
-/// time linear in the points, `times` and `star` quadratic.
+/// time linear in the points, `times` linear in the points and the pairs that the left relation joins, `star` quadratic.
 #[derive(Drop)]
 pub struct BitRelation {
     rows: [u128; POINTS],
@@ -65,13 +65,15 @@ impl BitRelation {
         if has_bit(row, a) { self.rows[a] } else { 0 }
     }
 
-    /// The points that a point of the row is joined to.
+    /// The points that a point of the row is joined to. It takes a step for each point that the row has.
     fn row_through(&self, row: u128) -> u128
         ensures { (y : ℕ) → HasBit result y ↔ ((c : ℕ) × (c < 66) × HasBit row c × HasBit (slice_index self.now.rows c) y) }
     {
         let mut joined = 0;
-        for c in 0..POINTS {
-            joined |= self.row_if(row, c);
+        let mut from = 0;
+        while let Some(point) = next_point(row, from) {
+            joined |= self.rows[point];
+            from = point + 1;
         }
         joined
     }
@@ -135,6 +137,19 @@ fn bit(b: usize) -> u128
     ensures { (y : ℕ) → HasBit result y ↔ (y ≡ b) }
 {
     1 << b
+}
+
+/// The first point of the row that is not below `from`; `None` where it has none.
+fn next_point(row: u128, from: usize) -> Option<usize>
+    requires { from < 67 }
+    ensures { MatchOption result ((d : ℕ) → from ≤ d → d < 66 → HasBit row d → ⊥) (λ c. (from ≤ c) × (c < 66) × HasBit row c × ((d : ℕ) → from ≤ d → d < c → HasBit row d → ⊥)) }
+{
+    let left = row >> from;
+    if left == 0 {
+        return None;
+    }
+    let point = from + left.trailing_zeros() as usize;
+    if point < POINTS { Some(point) } else { None }
 }
 
 /// Whether the row has the point `b`.

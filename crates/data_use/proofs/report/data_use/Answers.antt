@@ -1,13 +1,18 @@
-use Rattle.std.proofs.Common.{◌≡◌, ◌+◌, ◌-◌, length, map, arith}
+use Rattle.std.proofs.Common.{◌≡◌, ◌∙◌, ◌+◌, ◌-◌, ap, length, map, arith, rules}
 use Rattle.data_use.specs.Facts.{place_of}
-use Rattle.data_use.proofs.Telling.{full-order, rest-low, places-more, facts-more}
+use Rattle.data_use.proofs.Telling.{full-order, rest-low, places-all, places-more, facts-more}
 use Rattle.data_use.proofs.report.data_use.Goals as goal
 
-pub add_group-requires-clause-order : goal.add_group-requires-clause-order
-add_group-requires-clause-order c =
+pub plan_of-requires-clause-order : goal.plan_of-requires-clause-order
+plan_of-requires-clause-order c =
     let size : c.len.result - 1 + 1 ≡ length c.args.graph.now.nodes = omega (arith, c.len.ensures, c.requires.formed.some_nodes) in
-    full-order c.args.graph.now c.args.order.now c.in_ok-full.full.items c.as_slice-in-loop-rest-2.result.now (c.len.result - 1) c.requires.order size c.in_ok-full.ensures
-    c.as_slice-in-loop-rest-2.ensures.value
+    full-order c.args.graph.now c.args.order.now c.in_ok-full.full.items c.as_slice-3.result.now (c.len.result - 1) c.requires.order size c.in_ok-full.ensures
+    c.as_slice-3.ensures.value
+
+pub returns-clause-places : goal.returns-clause-places
+returns-clause-places c =
+    let none : length c.loop-rest.rest.now ≡ 0 = search rules in
+    ap (map place_of) c.from_vec.ensures ∙ places-all (map place_of c.loop-rest.rows.items) c.loop-rest.rest.now _ none c.loop-rest.invariant.places
 
 pub add_group-requires-clause-low : goal.add_group-requires-clause-low
 add_group-requires-clause-low c =
