@@ -8,3 +8,4 @@ pub mod OneEntry
 pub mod ComingBack
 pub mod Showing
 pub mod Stuck
+pub mod LowLines

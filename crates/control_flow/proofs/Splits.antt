@@ -129,20 +129,25 @@ loops_skip g n loops b h = record {
     back : (k : ℕ) → IsHead g.arcs k × (k < n + 1) → IsHead g.arcs k × (k < n)
     back k p = elim (cases_lt k n) [ inl low ↦ (p.0, low) | inr high ↦ let q = p.1 in let e : k ≡ n = omega (arith, high, q) in absurd (h (rw e at p.0)) ]
 
--- the rows of forward arcs into the lines below one line more
-pub forward_more : (count : ℕ) (arcs : List Arc) (rows now : List (List ℕ)) (row front slice : List ℕ) (around marks : List Bool) (v : ℕ)
-    → AreRows count (λ a b. IsForward arcs a b × (b < v)) rows → length now ≡ length rows → ((u : ℕ) → IsIn row u ↔ Joins arcs u v)
+-- the arcs forward into a line come from the lines of its row that are reached around it
+pub front_forward : (arcs : List Arc) (row front slice : List ℕ) (around marks : List Bool) (v : ℕ) → ((u : ℕ) → IsIn row u ↔ Joins arcs u v)
     → ((k : ℕ) → IsMarked around k ↔ IsReachedAround arcs v k) → marks ≡ around → ((k : ℕ) → IsIn front k ↔ (IsIn row k × IsMarked marks k)) → slice ≡ front
-    → ((a b : ℕ) → IsIn (row_of now a) b ↔ (IsIn (row_of rows a) b ⊎ (IsIn slice a × (b ≡ v)))) → AreRows count (λ a b. IsForward arcs a b × (b < v + 1)) now
-forward_more count arcs rows now row front slice around marks v r s j m same f is e = record { size = s ∙ r.size; exact = λ a b. (there a b, back a b) }
+    → (u : ℕ) → IsIn slice u ↔ IsForward arcs u v
+front_forward arcs row front slice around marks v j m same f is u = (
+  λ i. let p = (f u).0 (rw is at i) in ((j u).0 p.0, (m u).0 (rw same at p.1)),
+  λ q. rw is ((f u).1 ((j u).1 q.0, rw same ((m u).1 q.1))),
+)
+
+-- the rows of forward arcs into the lines below one line more
+pub forward_more : (count : ℕ) (arcs : List Arc) (rows now : List (List ℕ)) (front : List ℕ) (v : ℕ)
+    → AreRows count (λ a b. IsForward arcs a b × (b < v)) rows → length now ≡ length rows → ((u : ℕ) → IsIn front u ↔ IsForward arcs u v)
+    → ((a b : ℕ) → IsIn (row_of now a) b ↔ (IsIn (row_of rows a) b ⊎ (IsIn front a × (b ≡ v)))) → AreRows count (λ a b. IsForward arcs a b × (b < v + 1)) now
+forward_more count arcs rows now front v r s f e = record { size = s ∙ r.size; exact = λ a b. (there a b, back a b) }
   where
     there : (a b : ℕ) → IsIn (row_of now a) b → IsForward arcs a b × (b < v + 1)
     there a b i = elim ((e a b).0 i) [
       | inl old ↦ let p = (r.exact a b).0 old in let l = p.1 in (p.0, omega (arith, l))
-      | inr new ↦
-          let p = (f a).0 (rw is at new.0) in
-          let l = new.1 in
-          (rw l ((j a).0 p.0, (m a).0 (rw same at p.1)), omega (arith, l))
+      | inr new ↦ let l = new.1 in (rw l ((f a).0 new.0), omega (arith, l))
     ]
 
     back : (a b : ℕ) → IsForward arcs a b × (b < v + 1) → IsIn (row_of now a) b
@@ -152,5 +157,5 @@ forward_more count arcs rows now row front slice around marks v r s j m same f i
           let l = p.1 in
           let at_v : b ≡ v = omega (arith, high, l) in
           let q : IsForward arcs a v = rw at_v at p.0 in
-          (e a b).1 (inr (rw is ((f a).1 ((j a).1 q.0, rw same ((m a).1 q.1))), at_v))
+          (e a b).1 (inr ((f a).1 q, at_v))
     ]

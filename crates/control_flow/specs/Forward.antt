@@ -28,6 +28,10 @@ AreTails g = AreRows (length g.nodes) (λ a b. Joins g.arcs b a)
 abbrev pub IsReachedAround : List Arc → ℕ → ℕ → Type 0
 IsReachedAround arcs h k = (lines : List ℕ) × IsWalk (Joins arcs) 0 lines k × (IsIn (0 ∷ lines) h → ⊥)
 
+-- a walk from line 0 over lines that are not greater than line k ends at line k
+abbrev pub IsReachedBelow : List Arc → ℕ → Type 0
+IsReachedBelow arcs k = (lines : List ℕ) × IsWalk (Joins arcs) 0 lines k × ((j : ℕ) → IsIn (0 ∷ lines) j → j ≤ k)
+
 -- an arc from line u to line v, where some walk from line 0 to u does not pass v
 abbrev pub IsForward : List Arc → ℕ → ℕ → Type 0
 IsForward arcs u v = Joins arcs u v × IsReachedAround arcs v u

@@ -3,6 +3,7 @@
 #![tactic(auto)]
 
 mod analysis;
+mod ascending;
 mod control;
 mod evidence;
 mod laws;

@@ -8,6 +8,7 @@ ghost use Rattle.control_flow.specs.Loop.{IsBackArc, IsHead};
 ghost use Rattle.control_flow.specs.Control.{IsLoop, AreLoops, heads_of};
 ghost use Rattle.control_flow.specs.Forward.{AreHeads, AreTails, AreRows, AreLoopsBelow, IsForward, IsReachedAround, MarksUnreachable};
 
+use crate::ascending::{all_low, low_lines};
 use crate::control::LoopInfo;
 use crate::loops::loop_of;
 use crate::marks::without;
@@ -103,7 +104,8 @@ fn add_loop(
     Ok(())
 }
 
-/// The loops and the forward arcs of a graph, of which `heads` and `tails` are the rows.
+/// The loops and the forward arcs of a graph, of which `heads` and `tails` are the rows. Where walks that go up at each step
+/// come to all tails of the arcs into a line, and these are less than it, all these arcs go forward, and no search is made.
 pub fn split_arcs(
     alloc: Global,
     graph: &FlowGraph,
@@ -124,21 +126,26 @@ pub fn split_arcs(
     let count = graph.nodes.len();
     let mut loops = List::new(alloc);
     let mut forward = empty_rows(alloc, count)?;
+    let low = low_lines(alloc, graph, tails)?;
     for line in 1..count {
-        let around = reached_around(alloc, graph, heads, line)?;
         let row = row_at(tails, line);
-        let front = marked_of(alloc, row, around.as_slice())?;
-        extend_rows(&mut forward, front.as_slice(), line)?;
-        let back = back_tails(alloc, graph, row, reached, around.as_slice(), line)?;
-        add_loop(
-            alloc,
-            graph,
-            tails,
-            unreached,
-            &mut loops,
-            line,
-            back.as_slice(),
-        )?;
+        if all_low(row, low.as_slice(), line) {
+            extend_rows(&mut forward, row, line)?;
+        } else {
+            let around = reached_around(alloc, graph, heads, line)?;
+            let front = marked_of(alloc, row, around.as_slice())?;
+            extend_rows(&mut forward, front.as_slice(), line)?;
+            let back = back_tails(alloc, graph, row, reached, around.as_slice(), line)?;
+            add_loop(
+                alloc,
+                graph,
+                tails,
+                unreached,
+                &mut loops,
+                line,
+                back.as_slice(),
+            )?;
+        }
     }
     Ok(ArcSplit {
         loops,
