@@ -7,6 +7,7 @@ ghost use Rattle.control_flow.specs.Control.{IsControlOf};
 ghost use Rattle.control_flow.specs.declared.control.Shape.TheVariants.{Reducible};
 ghost use Rattle.interval_reduce.specs.Derivation.{IsDerivationOf};
 ghost use Rattle.test_graph.specs.Lowered.{IsLowered};
+ghost use Rattle.region_paths.specs.Count.{AreSizesOf};
 ghost use Rattle.region_paths.specs.Region.{first_lines, leading_of};
 ghost use Rattle.region_paths.specs.Listing.{RegionPath};
 ghost use Rattle.region_paths.specs.Walk.{AreLines};
@@ -22,7 +23,8 @@ use crate::threat::Threat;
 use control_flow::Control;
 use il_core::{CheckedProc, List, NoMemory};
 use interval_reduce::Derivation;
-use semantic_tables::{Hazard, HazardsOr, hazards};
+use region_paths::Sizes;
+use semantic_tables::{Hazard, HazardsOr, hazards_by};
 use std::alloc::Global;
 use test_graph::{TestGraph, ways_go_along_arcs};
 
@@ -82,7 +84,7 @@ fn add_region(
     proc: &CheckedProc,
     graph: &TestGraph,
     control: &Control,
-    derivation: &Derivation,
+    sizes: &Sizes,
     pc: usize,
     leading: &[usize],
     found: &mut List<Threat>,
@@ -91,13 +93,13 @@ fn add_region(
     requires lowered { IsLowered (procedure_of proc.now) graph.now }
     requires control { IsControlOf (graph_of (procedure_of proc.now)) control.now }
     requires shape { control.now.shape ≡ Reducible }
-    requires derivation { IsDerivationOf (graph_of (procedure_of proc.now)) control.now.shape derivation.now }
+    requires sizes { AreSizesOf (procedure_of proc.now) control.now.loops graph.now sizes.now }
     requires first { IsIn (first_lines control.now.loops) pc }
     requires leading { leading.now ≡ leading_of control.now.loops pc }
     ensures { OnOk result (AddsRegion (procedure_of proc.now) control.now.loops pc found.old found.new) }
 {
     ways_go_along_arcs();
-    match hazards(alloc, proc, graph, control, derivation, pc)? {
+    match hazards_by(alloc, proc, graph, control, sizes, pc)? {
         HazardsOr::Past(_) => Ok(()),
         HazardsOr::Hazards(list) => add_threats(alloc, proc, graph, pc, leading, list, found),
     }
@@ -109,9 +111,10 @@ fn add_region(
 /// ends outside the postcondition, however long it is.
 ///
 /// `graph`, `control` and `derivation` are those of `proc`, whose shape is reducible. `NoMemory` comes only where memory
-/// runs out. Each region's paths that stop badly are listed by `hazards`, with what it found of their literals, and given up
-/// before those of the next. Nothing is solved here: a threat that `hazards` found refuted costs nothing more, and any
-/// other one at most twice as many steps as there are lines. The pieces of a run from one head to the next are those of the method of inductive assertions
+/// runs out. What the sizes of all regions share is made once. Each region's paths that stop badly are listed by
+/// `hazards_by`, with what it found of their literals, and given up before those of the next. Nothing is solved here: a
+/// threat that was found refuted there costs nothing more, and any other one at most twice as many steps as there are
+/// lines. The pieces of a run from one head to the next are those of the method of inductive assertions
 /// (R. W. Floyd, Assigning meanings to programs, 1967).
 pub fn threats(
     alloc: Global,
@@ -131,11 +134,12 @@ pub fn threats(
     told_checked(proc);
     refuted_lists_mean_no_bad_run();
     let mut found = List::new(alloc);
-    add_region(alloc, proc, graph, control, derivation, 0, &[], &mut found)?;
+    let sizes = Sizes::of_regions(alloc, proc, graph, control)?;
+    add_region(alloc, proc, graph, control, &sizes, 0, &[], &mut found)?;
     for info in control.loops.as_slice() {
         let leading = info.leading.as_slice();
         add_region(
-            alloc, proc, graph, control, derivation, info.head, leading, &mut found,
+            alloc, proc, graph, control, &sizes, info.head, leading, &mut found,
         )?;
     }
     Ok(found)

@@ -1,16 +1,18 @@
 -- How many paths go down a tree, counted up to 16,385, which is one more than a region within its size has. Line by line the counts come up
 -- to the paths, and never pass them.
-use Rattle.std.specs.Prelude.{◌≡◌, ℕ, zero, suc, ◌+◌, ◌<◌, ◌≤◌, true, false, Option, Some, List, IfSome, MatchOption, length, min, slice_get}
+use Rattle.std.specs.Prelude.{◌≡◌, ℕ, zero, suc, ◌+◌, ◌<◌, ◌≤◌, true, false, Option, Some, List, All, IfSome, MatchOption, length, min, slice_get}
+use Rattle.il_core.specs.LineGraph.{IsIn}
 use Rattle.il_core.specs.Procedure.{Procedure}
 use Rattle.il_core.specs.declared.line.Next.TheVariants as next
 use Rattle.control_flow.specs.declared.control.LoopInfo.{LoopInfo}
-use Rattle.test_graph.specs.Decision.{Decision, ask, done}
+use Rattle.test_graph.specs.Decision.{Decision, ask, done, decision_at}
 use Rattle.test_graph.specs.Lowered.{Unfolds}
 use Rattle.test_graph.specs.declared.graph.TestGraph.{TestGraph}
-use Rattle.region_paths.specs.Region.{is_head, leading_of}
-use Rattle.region_paths.specs.PathTree.{PathTree, fork, change, stops, leading_tree}
-use Rattle.region_paths.specs.Walk.{region_tree_of}
+use Rattle.region_paths.specs.Region.{is_head, leading_of, first_lines}
+use Rattle.region_paths.specs.PathTree.{PathTree, fork, change, stops, leading_tree, long_tree}
+use Rattle.region_paths.specs.Walk.{AreLoopsOf, region_tree_of}
 use Rattle.region_paths.specs.declared.counting.LineWays.{LineWays}
+use Rattle.region_paths.specs.declared.sizing.Sizes.{Sizes}
 
 abbrev pub leaves : PathTree → ℕ
 leaves (fork c met unmet) = leaves met + leaves unmet
@@ -79,3 +81,15 @@ pub record IsRaised (p : Procedure) (g : TestGraph) (heads : List (Option ℕ)) 
   pub size : length new ≡ length old
   pub least : (loops : List LoopInfo) (n : ℕ) → CountAtLeast p loops g n 0 old → CountAtLeast p loops g n 0 new
   pub most : (loops : List LoopInfo) (n : ℕ) → AreHeadCounts p loops heads → CountAtMost p loops g n old → (m : ℕ) × CountAtMost p loops g m new
+
+-- the first node of a region counts its long paths, and no node counts further than one more than a region within its size has
+pub record ArePathCounts (p : Procedure) (loops : List LoopInfo) (g : TestGraph) (counts : List ℕ) : Type 0 where
+  pub nodes : length counts ≡ length g.nodes
+  pub few : All IsFew counts
+  pub each : (pc id c : ℕ) → IsIn (first_lines loops) pc → Unfolds g.nodes g.entries id (decision_at p pc) → slice_get counts id ≡ Some c
+      → c ≡ capped (leaves (long_tree p loops pc))
+
+-- what the sizes of all regions share: for each line the loop of which it is the head, and the counts of the paths
+pub record AreSizesOf (p : Procedure) (loops : List LoopInfo) (g : TestGraph) (s : Sizes) : Type 0 where
+  pub heads : AreLoopsOf p loops s.heads.items
+  pub counts : ArePathCounts p loops g s.counts.items

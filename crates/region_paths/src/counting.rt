@@ -13,7 +13,7 @@ ghost use Rattle.region_paths.specs.Region.{first_lines};
 ghost use Rattle.region_paths.specs.PathTree.{leading_tree, long_tree};
 ghost use Rattle.region_paths.specs.Walk.{AreLines, LeadInside, IsLoopOf, AreLoopsOf};
 ghost use Rattle.region_paths.specs.Count as count;
-ghost use Rattle.region_paths.specs.Count.{leaves, capped, counted, IsFew, IsOne, IsFewHead, IsFewWays, AreWaysOf, AreNodeWays, IsHeadCount, AreHeadCounts, CountAtLeast, CountAtMost, IsRaised};
+ghost use Rattle.region_paths.specs.Count.{leaves, capped, counted, IsFew, IsOne, IsFewHead, IsFewWays, AreWaysOf, AreNodeWays, IsHeadCount, AreHeadCounts, CountAtLeast, CountAtMost, IsRaised, ArePathCounts};
 
 use crate::heads::loop_at;
 use crate::walk::{first_node, leading_at};
@@ -403,32 +403,50 @@ fn node_counts(
     Ok(counts)
 }
 
-/// How many long paths the region of line `pc` has, counted up to 16,385.
+/// How many long paths go on from each node, counted up to 16,385: from the first node of a region's first line, those of
+/// the region.
 ///
 /// It counts the paths from each node on, from the ends, in rounds over the nodes: a test has the paths of both its sides,
 /// a line those of its first node, a head those through its leading assertions. Each round first takes the lines from
-/// the last to the first, and then all nodes in ascending order; it ends where that changes nothing. So a region whose
+/// the last to the first, and then all nodes in ascending order; it ends where that changes nothing. So a procedure whose
 /// ways go forward takes one round, and none takes more than there are lines and one. It does not recurse, and takes
 /// memory for the nodes and the lines.
-pub fn path_count(
+pub fn path_counts(
     alloc: Global,
     proc: &CheckedProc,
     graph: &TestGraph,
     control: &Control,
     loops: &[Option<usize>],
-    pc: usize,
-) -> Result<u64, NoMemory>
+) -> Result<Vec<u64>, NoMemory>
     requires checked { IsChecked (procedure_of proc.now) }
     requires lowered { IsLowered (procedure_of proc.now) graph.now }
     requires control { IsControlOf (graph_of (procedure_of proc.now)) control.now }
     requires shape { control.now.shape ≡ Reducible }
     requires loops { AreLoopsOf (procedure_of proc.now) control.now.loops loops.now }
-    requires first { IsIn (first_lines control.now.loops) pc }
-    ensures { IfOk result (λ n. n ≡ capped (leaves (long_tree (procedure_of proc.now) control.now.loops pc))) }
+    ensures { IfOk result (λ counts. ArePathCounts (procedure_of proc.now) control.now.loops graph.now counts.items) }
 {
     ways_go_along_arcs();
-    let first = first_node(proc, graph, pc);
     let heads = head_counts(alloc, proc, graph, control.loops.as_slice(), loops)?;
     let counts = node_counts(alloc, proc, graph, &heads)?;
-    Ok(count_of(&counts, first))
+    Ok(counts)
+}
+
+/// How many long paths the region of line `pc` has, counted up to 16,385, where those from each node are counted. It takes
+/// three look-ups.
+pub fn path_count(
+    proc: &CheckedProc,
+    graph: &TestGraph,
+    control: &Control,
+    counts: &[u64],
+    pc: usize,
+) -> u64
+    requires checked { IsChecked (procedure_of proc.now) }
+    requires lowered { IsLowered (procedure_of proc.now) graph.now }
+    requires control { IsControlOf (graph_of (procedure_of proc.now)) control.now }
+    requires shape { control.now.shape ≡ Reducible }
+    requires counts { ArePathCounts (procedure_of proc.now) control.now.loops graph.now counts.now }
+    requires first { IsIn (first_lines control.now.loops) pc }
+    ensures { result ≡ capped (leaves (long_tree (procedure_of proc.now) control.now.loops pc)) }
+{
+    count_of(counts, first_node(proc, graph, pc))
 }

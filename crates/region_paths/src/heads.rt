@@ -1,6 +1,6 @@
 //! The loop of each line that is a head.
 ghost use Rattle.std.specs.Prelude.{◌≡◌, ℕ, List, Option, All, IfOk, Some, None, length, slice_get};
-ghost use Rattle.il_core.specs.Checked.{procedure_of};
+ghost use Rattle.il_core.specs.Checked.{procedure_of, IsChecked};
 ghost use Rattle.region_paths.specs.Walk.{IsPut, IsLoopOf, IsNone, AreLoopsOf};
 
 use control_flow::LoopInfo;
@@ -34,7 +34,8 @@ pub fn loops_of_lines(
     proc: &CheckedProc,
     loops: &[LoopInfo],
 ) -> Result<Vec<Option<usize>>, NoMemory>
-    ensures { IfOk result (λ heads. AreLoopsOf (procedure_of proc.now) loops.now heads.items) }
+    ensures checked { IfOk result (λ _. IsChecked (procedure_of proc.now)) }
+    ensures loops { IfOk result (λ heads. AreLoopsOf (procedure_of proc.now) loops.now heads.items) }
 {
     let mut heads = vec![in alloc; None; proc.lines().len()]?;
     put_loops(&mut heads, loops);

@@ -17,5 +17,5 @@ pub use laws::{
     decisions_tell_paths, heads_cut_cycles, inputs_take_one_path, one_listing, paths_are_listed,
 };
 pub use limit::Limit;
-pub use sizing::size;
+pub use sizing::{Sizes, size};
 pub use walk::{first_node, leading_at, loop_of};

@@ -19,5 +19,5 @@ mod walking;
 
 pub use hazard::{Hazard, HazardsOr};
 pub use laws::{inputs_have_one_long_row, inputs_have_one_row, one_table};
-pub use making::{hazards, long_rows, table};
+pub use making::{hazards, hazards_by, long_rows, table, table_by};
 pub use row::{Row, TableOr};

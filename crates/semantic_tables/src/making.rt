@@ -9,6 +9,7 @@ ghost use Rattle.interval_reduce.specs.Derivation.{IsDerivationOf};
 ghost use Rattle.sym_terms.specs.Identity.{own_values};
 ghost use Rattle.test_graph.specs.Decision.{decision_at};
 ghost use Rattle.test_graph.specs.Lowered.{IsLowered};
+ghost use Rattle.region_paths.specs.Count.{AreSizesOf};
 ghost use Rattle.region_paths.specs.PathTree.{paths_down};
 ghost use Rattle.region_paths.specs.Region.{first_lines};
 ghost use Rattle.region_paths.specs.Laws.{BeginsRegion};
@@ -31,7 +32,7 @@ use control_flow::Control;
 use il_core::{CheckedProc, List, NoMemory};
 use interval_reduce::Derivation;
 use path_inputs::refuted_stays_refuted;
-use region_paths::{Limit, first_node, one_listing, paths_are_listed, size};
+use region_paths::{Limit, Sizes, first_node, one_listing, paths_are_listed};
 use std::alloc::Global;
 use sym_simplify::Forms;
 use test_graph::TestGraph;
@@ -84,12 +85,14 @@ fn explore(
     proc: &CheckedProc,
     graph: &TestGraph,
     control: &Control,
+    sizes: &Sizes,
     pc: usize,
     query: Query,
 ) -> Result<Explored, NoMemory>
     requires lowered { IsLowered (procedure_of proc.now) graph.now }
     requires control { IsControlOf (graph_of (procedure_of proc.now)) control.now }
     requires shape { control.now.shape ≡ Reducible }
+    requires sizes { AreSizesOf (procedure_of proc.now) control.now.loops graph.now sizes.now }
     requires first { IsIn (first_lines control.now.loops) pc }
     ensures begins { IfOk result (λ _. BeginsRegion (procedure_of proc.now) control.now.loops pc) }
     ensures found { IfOk result (IsExploredFor query (procedure_of proc.now) control.now.loops pc) }
@@ -98,7 +101,7 @@ fn explore(
     paths_are_listed();
     one_listing();
     let room = proc.lines().len();
-    if let Some(limit) = size(alloc, proc, graph, control, pc)? {
+    if let Some(limit) = sizes.limit(alloc, proc, graph, control, pc)? {
         return Ok(Explored::Past(limit));
     }
     let loops = control.loops.as_slice();
@@ -119,18 +122,20 @@ fn rows_within(
     proc: &CheckedProc,
     graph: &TestGraph,
     control: &Control,
+    sizes: &Sizes,
     pc: usize,
     query: Query,
 ) -> Result<TableOr, NoMemory>
     requires lowered { IsLowered (procedure_of proc.now) graph.now }
     requires control { IsControlOf (graph_of (procedure_of proc.now)) control.now }
     requires shape { control.now.shape ≡ Reducible }
+    requires sizes { AreSizesOf (procedure_of proc.now) control.now.loops graph.now sizes.now }
     requires first { IsIn (first_lines control.now.loops) pc }
     ensures begins { IfOk result (λ _. BeginsRegion (procedure_of proc.now) control.now.loops pc) }
     ensures rows { IfOk result (IsTableFor query (procedure_of proc.now) control.now.loops pc) }
     ensures fits { IfOk result (HaveSoundLiterals (length proc.now.places)) }
 {
-    match explore(alloc, proc, graph, control, pc, query)? {
+    match explore(alloc, proc, graph, control, sizes, pc, query)? {
         Explored::Within(found) => Ok(TableOr::Table(found.rows)),
         Explored::Past(limit) => Ok(TableOr::Past(limit)),
     }
@@ -169,8 +174,31 @@ pub fn table(
     ensures one { IfOk result (OneRowEach (procedure_of proc.now) control.now.loops pc) }
     ensures fits { IfOk result (HaveSoundLiterals (length proc.now.places)) }
 {
+    let sizes = Sizes::of_regions(alloc, proc, graph, control)?;
+    table_by(alloc, proc, graph, control, &sizes, pc)
+}
+
+/// The table of the region that begins at line `pc`, as `table` answers it, where what the sizes of all regions share is at
+/// hand: who asks for the tables of several regions makes it once.
+pub fn table_by(
+    alloc: Global,
+    proc: &CheckedProc,
+    graph: &TestGraph,
+    control: &Control,
+    sizes: &Sizes,
+    pc: usize,
+) -> Result<TableOr, NoMemory>
+    requires lowered { IsLowered (procedure_of proc.now) graph.now }
+    requires control { IsControlOf (graph_of (procedure_of proc.now)) control.now }
+    requires shape { control.now.shape ≡ Reducible }
+    requires sizes { AreSizesOf (procedure_of proc.now) control.now.loops graph.now sizes.now }
+    requires first { IsIn (first_lines control.now.loops) pc }
+    ensures rows { IfOk result (IsTable (procedure_of proc.now) control.now.loops pc) }
+    ensures one { IfOk result (OneRowEach (procedure_of proc.now) control.now.loops pc) }
+    ensures fits { IfOk result (HaveSoundLiterals (length proc.now.places)) }
+{
     inputs_have_one_row();
-    rows_within(alloc, proc, graph, control, pc, Query::Table)
+    rows_within(alloc, proc, graph, control, sizes, pc, Query::Table)
 }
 
 /// The rows of all long paths of the region that begins at line `pc`, in the order of decisions, true first: these go on
@@ -197,7 +225,8 @@ pub fn long_rows(
     ensures fits { IfOk result (HaveSoundLiterals (length proc.now.places)) }
 {
     inputs_have_one_long_row();
-    rows_within(alloc, proc, graph, control, pc, Query::LongRows)
+    let sizes = Sizes::of_regions(alloc, proc, graph, control)?;
+    rows_within(alloc, proc, graph, control, &sizes, pc, Query::LongRows)
 }
 
 /// The hazards of the region that begins at line `pc`: those of its long paths that stop at a failed assertion, a failed
@@ -224,7 +253,29 @@ pub fn hazards(
     ensures hazards { IfOk result (AreHazards (procedure_of proc.now) control.now.loops pc) }
     ensures least { IfOk result (HaveLeast proc.now.places pc) }
 {
-    match explore(alloc, proc, graph, control, pc, Query::Hazards)? {
+    let sizes = Sizes::of_regions(alloc, proc, graph, control)?;
+    hazards_by(alloc, proc, graph, control, &sizes, pc)
+}
+
+/// The hazards of the region that begins at line `pc`, as `hazards` answers them, where what the sizes of all regions share
+/// is at hand: who asks for the hazards of several regions makes it once.
+pub fn hazards_by(
+    alloc: Global,
+    proc: &CheckedProc,
+    graph: &TestGraph,
+    control: &Control,
+    sizes: &Sizes,
+    pc: usize,
+) -> Result<HazardsOr, NoMemory>
+    requires lowered { IsLowered (procedure_of proc.now) graph.now }
+    requires control { IsControlOf (graph_of (procedure_of proc.now)) control.now }
+    requires shape { control.now.shape ≡ Reducible }
+    requires sizes { AreSizesOf (procedure_of proc.now) control.now.loops graph.now sizes.now }
+    requires first { IsIn (first_lines control.now.loops) pc }
+    ensures hazards { IfOk result (AreHazards (procedure_of proc.now) control.now.loops pc) }
+    ensures least { IfOk result (HaveLeast proc.now.places pc) }
+{
+    match explore(alloc, proc, graph, control, sizes, pc, Query::Hazards)? {
         Explored::Within(found) => Ok(HazardsOr::Hazards(found.hazards)),
         Explored::Past(limit) => Ok(HazardsOr::Past(limit)),
     }

@@ -20,13 +20,13 @@ pub add_threats-requires-clause-hazards : goal.add_threats-requires-clause-hazar
 add_threats-requires-clause-hazards c =
     let b = begins (procedure_of c.args.proc.now) c.args.control.now c.args.pc c.requires.checked c.requires.control c.requires.shape c.requires.first in
     let k : IsPast (procedure_of c.args.proc.now) c.args.control.now.loops c.args.pc None × AreHazardsOf (IsHazard (procedure_of c.args.proc.now) c.args.control.now.loops c.args.pc) c.in-Hazards.list =
-    rw c.in-Hazards.is at c.in_ok-hazards.ensures.hazards in
-    let least : HaveLeast c.args.proc.now.places c.args.pc (Hazards c.in-Hazards.list) = rw c.in-Hazards.is at c.in_ok-hazards.ensures.least in
+    rw c.in-Hazards.is at c.in_ok-hazards_by.ensures.hazards in
+    let least : HaveLeast c.args.proc.now.places c.args.pc (Hazards c.in-Hazards.list) = rw c.in-Hazards.is at c.in_ok-hazards_by.ensures.least in
     hazards_behind (procedure_of c.args.proc.now) c.args.control.now.loops c.args.pc c.args.leading.now c.in-Hazards.list c.ways_go_along_arcs.ensures b c.requires.leading k.1 least
 
 pub returns-in-Past : goal.returns-in-Past
 returns-in-Past c =
-    let k : IsPast (procedure_of c.args.proc.now) c.args.control.now.loops c.args.pc (Some c.in-Past.field-0) = rw c.in-Past.is at c.in_ok-hazards.ensures.hazards in
+    let k : IsPast (procedure_of c.args.proc.now) c.args.control.now.loops c.args.pc (Some c.in-Past.field-0) = rw c.in-Past.is at c.in_ok-hazards_by.ensures.hazards in
     adds_none (procedure_of c.args.proc.now) c.args.control.now.loops c.args.pc c.in-Past.field-0 c.args.found.now k
 
 on_ok : (r : Result (Unit {0}) NoMemory) (X Y : Type 0) → (Y → X) → OnOk r Y → OnOk r X
@@ -37,7 +37,7 @@ pub returns-in-Hazards : goal.returns-in-Hazards
 returns-in-Hazards c =
     let b = begins (procedure_of c.args.proc.now) c.args.control.now c.args.pc c.requires.checked c.requires.control c.requires.shape c.requires.first in
     let k : IsPast (procedure_of c.args.proc.now) c.args.control.now.loops c.args.pc None × AreHazardsOf (IsHazard (procedure_of c.args.proc.now) c.args.control.now.loops c.args.pc) c.in-Hazards.list =
-    rw c.in-Hazards.is at c.in_ok-hazards.ensures.hazards in
+    rw c.in-Hazards.is at c.in_ok-hazards_by.ensures.hazards in
     on_ok c.add_threats.result _ _
     (λ told.
     adds_threats (procedure_of c.args.proc.now) c.args.control.now.loops c.args.pc c.args.leading.now c.in-Hazards.list c.args.found.now c.add_threats.new.found c.ways_go_along_arcs.ensures

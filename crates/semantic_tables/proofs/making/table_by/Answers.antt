@@ -6,7 +6,7 @@ use Rattle.semantic_tables.specs.Walk.{IsTableFor}
 use Rattle.semantic_tables.specs.declared.exploration.Query.TheVariants.{Table}
 use Rattle.semantic_tables.specs.declared.row.TableOr.{TableOr}
 use Rattle.semantic_tables.proofs.Made.{ok_both, ok_one, table_told}
-use Rattle.semantic_tables.proofs.making.table.Goals as goal
+use Rattle.semantic_tables.proofs.making.table_by.Goals as goal
 
 pub returns-clause-rows : goal.returns-clause-rows
 returns-clause-rows c =

@@ -3,7 +3,7 @@ use Rattle.semantic_tables.specs.Walk.{IsExploredFor}
 use Rattle.semantic_tables.specs.declared.exploration.Query.TheVariants.{Hazards}
 use Rattle.semantic_tables.specs.declared.making.Explored.TheVariants.{Within}
 use Rattle.semantic_tables.proofs.Made.{told_hazards}
-use Rattle.semantic_tables.proofs.making.hazards.Goals as goal
+use Rattle.semantic_tables.proofs.making.hazards_by.Goals as goal
 
 pub returns-in-Within-clause-hazards : goal.returns-in-Within-clause-hazards
 returns-in-Within-clause-hazards c =

@@ -8,10 +8,11 @@ use Rattle.sym_terms.proofs.Composed.{length-own_values}
 use Rattle.test_graph.specs.Decision.{decision_at}
 use Rattle.region_paths.specs.Walk.{LeadInside}
 use Rattle.region_paths.specs.Size.{IsPast}
+use Rattle.region_paths.specs.Count.{ArePathCounts}
 use Rattle.region_paths.proofs.Sized.{lead_inside, begins, first_inside, past_from}
 use Rattle.region_paths.proofs.Settled.{past_rows}
 use Rattle.region_paths.proofs.Walking.{stands_line, is_some, is_none}
-use Rattle.region_paths.proofs.sizing.size.Goals as goal
+use Rattle.region_paths.proofs.sizing.Sizes.limit.Goals as goal
 
 pub first_node-first-requires-clause-line : goal.first_node-first-requires-clause-line
 first_node-first-requires-clause-line c =
@@ -56,8 +57,12 @@ returns c =
     (is_none c.follow-within.result c.follow-within.new.tally _ c.if-within.false
     (c.follow-within.ensures.exact (own_values (length c.args.proc.now.places)) (decision_at (procedure_of c.args.proc.now) c.args.pc) (sym sizes) c.first_node-first.ensures.unfolds))
 
-pub returns-then-branch-gt-MOST_PATHS : goal.returns-then-branch-gt-MOST_PATHS
-returns-then-branch-gt-MOST_PATHS c =
+pub path_count-requires-clause-counts : goal.path_count-requires-clause-counts
+path_count-requires-clause-counts c =
+    subst (ArePathCounts (procedure_of c.args.proc.now) c.args.control.now.loops c.args.graph.now) (sym c.deref.ensures.value) c.requires.sizes.counts
+
+pub returns-then-path_count-gt-MOST_PATHS : goal.returns-then-path_count-gt-MOST_PATHS
+returns-then-path_count-gt-MOST_PATHS c =
     let b = begins (procedure_of c.args.proc.now) c.args.control.now c.args.pc c.places.ensures.checked c.requires.control c.requires.shape c.requires.first in
-    past_rows (procedure_of c.args.proc.now) c.args.control.now.loops c.args.pc c.in_ok-path_count.field-0 c.paths_are_listed.ensures b
-    c.in_ok-path_count.ensures c.if-branch-gt-MOST_PATHS.true
+    past_rows (procedure_of c.args.proc.now) c.args.control.now.loops c.args.pc c.path_count.result c.paths_are_listed.ensures b
+    c.path_count.ensures c.if-path_count-gt-MOST_PATHS.true
