@@ -1,5 +1,5 @@
-//! The tables and hazards of the regions of a text's first procedure.
-ghost use Rattle.std.specs.Prelude.{◌≡◌, IfOk};
+//! The tables, test inputs and hazards of the regions of a text's first procedure.
+ghost use Rattle.std.specs.Prelude.{◌≡◌, IfOk, length};
 ghost use Rattle.il_core.specs.Checked.{procedure_of};
 ghost use Rattle.il_core.specs.LineGraph.{IsIn};
 ghost use Rattle.flow_graph.specs.Graph.{graph_of};
@@ -8,12 +8,14 @@ ghost use Rattle.control_flow.specs.declared.control.Shape.TheVariants.{Reducibl
 ghost use Rattle.interval_reduce.specs.Derivation.{IsDerivationOf};
 ghost use Rattle.test_graph.specs.Lowered.{IsLowered};
 ghost use Rattle.region_paths.specs.Region.{first_lines};
+ghost use Rattle.semantic_tables.specs.Fit.{HaveSoundLiterals};
 
 use acceptance::accept;
 use control_flow::{Control, LoopInfo, Shape, control_of};
 use flow_graph::build;
-use il_core::{CheckedProc, CheckedText, NoMemory, TextEnd};
+use il_core::{CheckedProc, CheckedText, List, NoMemory, TextEnd};
 use interval_reduce::{Derivation, derive};
+use row_inputs::inputs;
 use semantic_tables::{HazardsOr, TableOr, hazards, long_rows, table};
 use std::alloc::Global;
 use std::test::Fail;
@@ -24,6 +26,8 @@ use test_graph::{TestGraph, lower};
 pub enum Asked {
     /// The rows of its table.
     Table,
+    /// The test inputs of these rows.
+    Inputs,
     /// The rows of its long paths.
     Long,
     /// Its hazards.
@@ -35,6 +39,8 @@ pub enum Asked {
 pub enum Found {
     /// Rows.
     Rows(TableOr),
+    /// The test input of each row, or that there is no table.
+    Inputs(Option<List<Option<List<i64>>>>),
     /// Hazards.
     Hazards(HazardsOr),
 }
@@ -49,6 +55,25 @@ pub fn first_line(loops: &[LoopInfo], region: usize) -> Result<usize, Fail>
     match loops.get(region - 1) {
         Some(info) => Ok(info.head),
         None => Err(Fail::from("no such region")),
+    }
+}
+
+/// The test inputs of the rows of a table.
+fn inputs_of(
+    alloc: Global,
+    proc: &CheckedProc,
+    control: &Control,
+    table: &TableOr,
+    pc: usize,
+) -> Result<Option<List<Option<List<i64>>>>, NoMemory>
+    requires control { IsControlOf (graph_of (procedure_of proc.now)) control.now }
+    requires shape { control.now.shape ≡ Reducible }
+    requires first { IsIn (first_lines control.now.loops) pc }
+    requires fits { HaveSoundLiterals (length proc.now.places) table.now }
+{
+    match table {
+        TableOr::Table(rows) => Ok(Some(inputs(alloc, proc, rows.as_slice(), control, pc)?)),
+        TableOr::Past(_) => Ok(None),
     }
 }
 
@@ -70,6 +95,10 @@ fn found_at(
 {
     match asked {
         Asked::Table => Ok(Found::Rows(table(alloc, proc, graph, control, derivation, pc)?)),
+        Asked::Inputs => {
+            let table = table(alloc, proc, graph, control, derivation, pc)?;
+            Ok(Found::Inputs(inputs_of(alloc, proc, control, &table, pc)?))
+        }
         Asked::Long => Ok(Found::Rows(long_rows(alloc, proc, graph, control, derivation, pc)?)),
         Asked::Hazards => Ok(Found::Hazards(hazards(alloc, proc, graph, control, derivation, pc)?)),
     }

@@ -1,5 +1,5 @@
 //! Rows as text: the decisions, the literals, the stop, and each value that is not the place's own. Hazards as text: the
-//! decisions, the literals, the halt, and the least input.
+//! decisions, the literals, the halt, and the least input. A test input as text: its values by place.
 use crate::regions::Found;
 use il_core::{List, Relation};
 use semantic_tables::{Hazard, HazardsOr, Row, TableOr};
@@ -138,7 +138,8 @@ fn rows_text(alloc: Global, rows: &List<Row>) -> Result<String, AllocError> {
     Ok(text)
 }
 
-fn least_text(alloc: Global, least: &Option<List<i64>>) -> Result<String, AllocError> {
+/// The values of a least input, or a word where there is none.
+fn least_text(alloc: Global, least: &Option<List<i64>>, none: &str) -> Result<String, AllocError> {
     match least {
         Some(input) => {
             let mut text = format!(in alloc; "LEAST")?;
@@ -148,14 +149,14 @@ fn least_text(alloc: Global, least: &Option<List<i64>>) -> Result<String, AllocE
             }
             Ok(text)
         }
-        None => format!(in alloc; "REFUTED"),
+        None => String::from_str(alloc, none),
     }
 }
 
 fn hazard_text(alloc: Global, hazard: &Hazard) -> Result<String, AllocError> {
     let path = path_text(alloc, hazard.path.as_slice())?;
     let literals = literals_text(alloc, hazard.literals.as_slice())?;
-    let least = least_text(alloc, &hazard.least)?;
+    let least = least_text(alloc, &hazard.least, "REFUTED")?;
     format!(in alloc; "{path}: {literals}{:?}; {least}", hazard.halt)
 }
 
@@ -173,6 +174,15 @@ fn hazards_text(alloc: Global, hazards: &HazardsOr) -> Result<String, AllocError
     }
 }
 
+fn inputs_text(alloc: Global, inputs: &[Option<List<i64>>]) -> Result<String, AllocError> {
+    let mut text = String::new(alloc);
+    for input in inputs {
+        text.push_str(least_text(alloc, input, "NONE")?.as_str())?;
+        text.push_str("\n")?;
+    }
+    Ok(text)
+}
+
 fn table_text(alloc: Global, table: &TableOr) -> Result<String, AllocError> {
     match table {
         TableOr::Table(rows) => rows_text(alloc, rows),
@@ -180,10 +190,12 @@ fn table_text(alloc: Global, table: &TableOr) -> Result<String, AllocError> {
     }
 }
 
-/// A line for each row or hazard of a region, or the limit that it passes.
+/// A line for each row, test input or hazard of a region, or the limit that it passes.
 pub fn found_text(alloc: Global, found: &Found) -> Result<String, AllocError> {
     match found {
         Found::Rows(table) => table_text(alloc, table),
+        Found::Inputs(Some(inputs)) => inputs_text(alloc, inputs.as_slice()),
+        Found::Inputs(None) => format!(in alloc; "PAST\n"),
         Found::Hazards(hazards) => hazards_text(alloc, hazards),
     }
 }

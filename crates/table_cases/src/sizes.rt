@@ -1,4 +1,4 @@
-//! How many rows regions of some size have, and where there are too many.
+//! How many rows and test inputs regions of some size have, and where there are too many.
 use crate::regions::{Asked, Found, found_of};
 use semantic_tables::{HazardsOr, TableOr};
 use std::alloc::{AllocError, Global};
@@ -46,10 +46,12 @@ fn lines_of(alloc: Global, count: u64, line: &str, last: &str) -> Result<String,
     Ok(text)
 }
 
-/// How many rows or hazards there are, or the limit that the region passes.
+/// How many rows, test inputs or hazards there are, or the limit that the region passes.
 fn count_text(alloc: Global, found: &Found) -> Result<String, AllocError> {
     match found {
         Found::Rows(TableOr::Table(rows)) => format!(in alloc; "{}", rows.len()),
+        Found::Inputs(Some(inputs)) => format!(in alloc; "{}", inputs.len()),
+        Found::Inputs(None) => format!(in alloc; "none"),
         Found::Hazards(HazardsOr::Hazards(list)) => format!(in alloc; "{}", list.len()),
         Found::Rows(TableOr::Past(limit)) | Found::Hazards(HazardsOr::Past(limit)) => {
             format!(in alloc; "{limit:?}")
@@ -65,13 +67,15 @@ fn count_of(alloc: Global, text: &str, asked: Asked) -> Result<String, Fail> {
 
 #[test]
 fn tests_in_a_row_have_one_row_more(rt: HostRuntime) -> Result<(), Fail> {
-    let cases: [(u64, Asked, &str); 7] = [
+    let cases: [(u64, Asked, &str); 9] = [
         (12, Asked::Table, "13"),
+        (12, Asked::Inputs, "13"),
         (12, Asked::Long, "4096"),
         (13, Asked::Table, "14"),
         (14, Asked::Table, "15"),
         (14, Asked::Long, "16384"),
         (15, Asked::Table, "Rows"),
+        (15, Asked::Inputs, "none"),
         (15, Asked::Hazards, "Rows"),
     ];
     for (count, asked, wanted) in cases.iter() {

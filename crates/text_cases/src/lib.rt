@@ -5,11 +5,7 @@
 #[cfg(test)]
 mod answers;
 #[cfg(test)]
-mod reports;
-#[cfg(test)]
-mod sections;
-#[cfg(test)]
-mod status;
+mod refusals;
 #[cfg(test)]
 mod whole;
 #[cfg(test)]

@@ -1,4 +1,4 @@
-use Rattle.std.proofs.Common.{◌≡◌, ◌∙◌, inl, inr, sym, ap, ℕ, zero, suc, ◌-◌, Some, List, [], ◌∷◌, map, slice_get}
+use Rattle.std.proofs.Common.{◌≡◌, ◌∙◌, inl, inr, sym, ap, ℕ, zero, suc, ◌-◌, Some, List, [], ◌∷◌, slice_get}
 use Rattle.std.proofs.lemmas.Option.{same_Some, none-some, slice_get-get_or}
 use Rattle.il_core.specs.LineGraph.{IsIn}
 use Rattle.control_flow.specs.Control.{heads_of}

@@ -1,8 +1,7 @@
-//! The lines of refusals, and the head and the end of a report.
-use il_core::{Code, List, Many, Name, Refusal};
+//! The lines of refusals.
+use il_core::{Code, Many, Name, Refusal};
 use il_edge::SureSink;
-use report::{Report, status_of};
-use report_text::{put_end, put_head, put_refusal};
+use report_text::put_refusal;
 use std::test::Fail;
 
 fn refusal(code: Code, place: usize, name: Option<Name>) -> Refusal {
@@ -82,23 +81,5 @@ fn writes_the_refusals(rt: HostRuntime) -> Result<(), Fail> {
         put_refusal(refusal, &mut sink)?;
         assert_eq!(rt; sink.held(), *line);
     }
-    Ok(())
-}
-
-#[test]
-fn writes_the_head_and_the_end(rt: HostRuntime) -> Result<(), Fail> {
-    let report = Report {
-        profile: 2,
-        title: Name::new(b"Brake").ok_or("no name")?,
-        procs: List::new(rt.alloc()),
-    };
-    let mut sink = SureSink::new(rt.alloc(), 100)?;
-    put_head(&report, &mut sink)?;
-    put_end(status_of(&report), &mut sink)?;
-    put_end(1, &mut sink)?;
-    assert_eq!(rt;
-        sink.held(),
-        b"MALPAS PROFILE 2\nTITLE Brake\nSTATUS 0\nSTATUS 1\n".as_slice()
-    );
     Ok(())
 }
