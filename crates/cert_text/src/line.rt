@@ -13,7 +13,7 @@ const FACTOR_LIMIT: u32 = 65_536;
 
 /// A line of certificates.
 #[derive(Clone, Copy)]
-pub(crate) enum Line {
+pub enum Line {
     /// A certificate for this threat of this procedure begins.
     Head(Name, usize),
     /// The literal at this position is split; the certificates of its two sides follow.

@@ -1,3 +1,4 @@
+pub mod Inputs
 pub mod Sent
 pub mod Ended
 pub mod Outcomes

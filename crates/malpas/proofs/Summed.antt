@@ -1,5 +1,5 @@
 -- What the report of a made text and its summary say, at each of their ends.
-use Rattle.std.proofs.Common.{◌≡◌, ◌⊎◌, ℕ, ◌<◌, ◌≤◌, inl, inr, Bool, true, false, not, List, length, Option, None, Some, IfSome, sym, ◌∙◌, subst, arith}
+use Rattle.std.proofs.Common.{◌≡◌, ◌⊎◌, ℕ, ◌<◌, ◌≤◌, inl, inr, Bool, true, false, not, List, [], length, Option, None, Some, IfSome, refl, sym, ◌∙◌, subst, arith}
 use Rattle.il_core.specs.declared.refusal.Refusal.{Refusal}
 use Rattle.il_edge.specs.Faults.{Rose}
 use Rattle.std.specs.Bool.{then_some}
@@ -13,7 +13,8 @@ use Rattle.report.specs.Headline.{IsTold, NoProcedureHasABadRun}
 use Rattle.report.specs.Status.{status_of}
 use Rattle.report.specs.declared.report.Report.{Report}
 use Rattle.summary_text.specs.Summary.{summary_text}
-use Rattle.malpas.specs.Answer.{Sends, text_limit}
+use Rattle.malpas.specs.Answer.{Sends}
+use Rattle.malpas.specs.Input.{text_limit, AcceptsInput}
 use Rattle.malpas.specs.Made.{IsMadeReported, Summarises}
 use Rattle.malpas.specs.Top.{HasAll, HasFewer, BelongsTo, IfAsked, IsReported}
 use Rattle.request.specs.Words.{Understands}
@@ -64,21 +65,27 @@ part n old new settled_old settled_new before now t report status ends four =
 
 -- With status 0 no procedure has a bad run.
 clean : (n : ℕ) (old new : Option (List ℕ)) (settled_old settled_new : Option ℕ) (before now : ℕ) (t : Text) (report : Report) (status : ℕ)
-    → Summarises n old new settled_old settled_new before now t (Some report) status → IsTold t report → status ≡ 0 → NoProcedureHasABadRun t
+    → Summarises n old new settled_old settled_new before now t (Some report) status → IsTold [] t report → status ≡ 0 → NoProcedureHasABadRun t
 clean n old new settled_old settled_new before now t report status ends told zero =
     elim ends [
-      | inl done ↦ no_bad_run t report (told_all t report (omega (arith, done.whole)) told) told.1.safe (sym done.is ∙ zero)
+      | inl done ↦ no_bad_run [] t report (told_all [] t report (omega (arith, done.whole)) told) told.1.certified (sym done.is ∙ zero)
       | inr rest ↦ elim rest [ inl cut ↦ absurd (omega (arith, cut.is, zero)) | inr short ↦ absurd (omega (arith, short.is, zero)) ]
     ]
 
+-- A made text is an input without certificates.
+made_input : (n : ℕ) (t : Text) → length (made_text n) ≤ text_limit → Accepts (made_text n) t → AcceptsInput false (made_text n) t []
+made_input n t short accepted = record { short = short; mark = None; cut = refl; text = accepted; read = refl }
+
 -- What is told of the first procedures of the made text is what the report says of it.
 pub made_reported : (n : ℕ) (old new : Option (List ℕ)) (settled_old settled_new : Option ℕ) (before now : ℕ) (t : Text) (report : Option Report) (status : ℕ)
-    → length (made_text n) ≤ text_limit → Accepts (made_text n) t → IfSome report (λ r. IsTold t r × (0 < length r.procs))
+    → length (made_text n) ≤ text_limit → Accepts (made_text n) t → IfSome report (λ r. IsTold [] t r × (0 < length r.procs))
     → Summarises n old new settled_old settled_new before now t report status → IfSome report (IsMadeReported n old new status)
 made_reported n old new settled_old settled_new before now t None status short accepted told ends = tt
 made_reported n old new settled_old settled_new before now t (Some report) status short accepted told ends = (
   t,
-  (short, accepted),
+  [],
+  refl,
+  made_input n t short accepted,
   (
     record {
       reported = told.0.0;
@@ -87,6 +94,7 @@ made_reported n old new settled_old settled_new before now t (Some report) statu
       fewer = fewer n old new settled_old settled_new before now t report status ends;
       one_row = told.0.1.one_row;
       safe = told.0.1.safe;
+      certified = told.0.1.certified;
       clean = clean n old new settled_old settled_new before now t report status ends told.0;
       equal_values = told.0.1.equal_values;
     },
@@ -102,23 +110,23 @@ not_silent n old new settled_old settled_new before now t (Some report) status e
 
 -- Where the sink did not fail, what is answered belongs to the made text, or memory ran out.
 pub belongs : (n : ℕ) (old new : Option (List ℕ)) (settled_old settled_new : Option ℕ) (before now : ℕ) (t : Text) (refusal : Option Refusal) (report : Option Report) (status : ℕ)
-    → refusal ≡ None → length (made_text n) ≤ text_limit → Accepts (made_text n) t → IfSome report (λ r. IsTold t r × (0 < length r.procs))
-    → Summarises n old new settled_old settled_new before now t report status → (Rose before now → ⊥) → (status ≡ 5) ⊎ BelongsTo (made_text n) refusal report status
+    → refusal ≡ None → length (made_text n) ≤ text_limit → Accepts (made_text n) t → IfSome report (λ r. IsTold [] t r × (0 < length r.procs))
+    → Summarises n old new settled_old settled_new before now t report status → (Rose before now → ⊥) → (status ≡ 5) ⊎ BelongsTo false (made_text n) refusal report status
 belongs n old new settled_old settled_new before now t refusal None status none short accepted told ends calm = inl ends
 belongs n old new settled_old settled_new before now t refusal (Some report) status none short accepted told ends calm =
     elim ends [
-      | inl done ↦ inr (subst (λ (r : Option Refusal). BelongsTo (made_text n) r (Some report) status) (sym none) (done.is, short, (t, accepted, told.0.0, done.whole)))
+      | inl done ↦ inr (subst (λ (r : Option Refusal). BelongsTo false (made_text n) r (Some report) status) (sym none) (done.is, (t, [], made_input n t short accepted, told.0.0, done.whole)))
       | inr rest ↦ elim rest [ inl cut ↦ absurd (calm cut.rose) | inr short_of ↦ inl short_of.is ]
     ]
 
 -- So it is where the made text is refused.
 pub refused_belongs : (n : ℕ) (old new : Option (List ℕ)) (settled_old settled_new : Option ℕ) (before now : ℕ) (refusal : Refusal) (text : List ℕ) (given : Option Refusal) (report : Option Report) (status : ℕ)
     → given ≡ Some refusal → report ≡ None → length (made_text n) ≤ text_limit → HasRefusal (made_text n) refusal
-    → Sends old new settled_old settled_new before now text 2 status → (Rose before now → ⊥) → (status ≡ 5) ⊎ BelongsTo (made_text n) given report status
+    → Sends old new settled_old settled_new before now text 2 status → (Rose before now → ⊥) → (status ≡ 5) ⊎ BelongsTo false (made_text n) given report status
 refused_belongs n old new settled_old settled_new before now refusal text given report status is none short refused sent calm =
     elim sent [
-      | inl done ↦ inr (subst (λ (r : Option Refusal). BelongsTo (made_text n) r report status) (sym is)
-          (subst (λ (r : Option Report). BelongsTo (made_text n) (Some refusal) r status) (sym none) (done.0, inr (short, refused))))
+      | inl done ↦ inr (subst (λ (r : Option Refusal). BelongsTo false (made_text n) r report status) (sym is)
+          (subst (λ (r : Option Report). BelongsTo false (made_text n) (Some refusal) r status) (sym none) (done.0, inr (record { short = short; mark = None; cut = refl; first = inl refused }))))
       | inr cut ↦ absurd (calm cut.3)
     ]
 

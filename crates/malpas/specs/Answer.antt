@@ -1,37 +1,28 @@
 -- What the bytes of a source are judged to be, and how a line is sent that answers all of them.
-use Rattle.std.specs.Prelude.{◌≡◌, ℕ, ◌≤◌, ◌⊎◌, List, length, Option, None, IfSome, Result, MatchResult}
+use Rattle.std.specs.Prelude.{◌≡◌, ℕ, Bool, ◌⊎◌, List, Option, IfSome, Result, MatchResult}
 use Rattle.il_core.specs.Text.{text_of}
-use Rattle.il_core.specs.declared.refusal.Refusal.{Refusal}
-use Rattle.il_core.specs.declared.refusal.Code.TheVariants as code
 use Rattle.il_edge.specs.Faults.{Rose}
 use Rattle.il_edge.specs.Known.{IsAtEnd, TookMore, Appends, AppendsPrefix, IsSettled}
-use Rattle.acceptance.specs.Acceptance.{Accepts, HasRefusal}
+use Rattle.malpas.specs.Input.{text_limit, AcceptsInput, RefusesParts, NoneUnasked}
 use Rattle.malpas.specs.declared.answer.Judged.{Judged}
 use Rattle.malpas.specs.declared.answer.Judged.TheVariants as judged
 
--- the greatest number of bytes of a text
-abbrev pub text_limit : ℕ
-text_limit = 1048576
-
--- the refusal of a text with more bytes
-abbrev pub too_long : Refusal
-too_long = record { code = code.TooLong; place = 1048576; name = None }
-
--- What a text of at most the greatest length is judged to be.
-abbrev pub JudgesText : List ℕ → Judged → Type 0
-JudgesText text (judged.Accepted checked) = Accepts text (text_of checked)
-JudgesText text (judged.Refused refusal) = HasRefusal text refusal
-JudgesText text judged.TooLong = ⊥
-JudgesText text judged.ReadFault = ⊥
-JudgesText text judged.NoMemory = Unit {0}
+-- What an input of at most the greatest length is judged to be.
+abbrev pub JudgesBytes : Bool → List ℕ → Judged → Type 0
+JudgesBytes certificates bytes (judged.Accepted input) = AcceptsInput certificates bytes (text_of input.text) input.certs × NoneUnasked certificates input.certs
+JudgesBytes certificates bytes (judged.Refused refusal) = RefusesParts certificates bytes refusal
+JudgesBytes certificates bytes judged.TooLong = ⊥
+JudgesBytes certificates bytes judged.ReadFault = ⊥
+JudgesBytes certificates bytes judged.NoMemory = Unit {0}
 
 -- What a source's bytes are judged to be, from what it had left before and has left now, and from its count of faults.
-abbrev pub Judges : Option (List ℕ) → Option (List ℕ) → ℕ → ℕ → Judged → Type 0
-Judges old new before now (judged.Accepted checked) = IsAtEnd new × IfSome old (λ text. (length text ≤ text_limit) × Accepts text (text_of checked))
-Judges old new before now (judged.Refused refusal) = IsAtEnd new × IfSome old (λ text. (length text ≤ text_limit) × HasRefusal text refusal)
-Judges old new before now judged.TooLong = TookMore text_limit old new
-Judges old new before now judged.ReadFault = Rose before now
-Judges old new before now judged.NoMemory = Unit {0}
+abbrev pub Judges : Bool → Option (List ℕ) → Option (List ℕ) → ℕ → ℕ → Judged → Type 0
+Judges certificates old new before now (judged.Accepted input) =
+    IsAtEnd new × NoneUnasked certificates input.certs × IfSome old (λ bytes. AcceptsInput certificates bytes (text_of input.text) input.certs)
+Judges certificates old new before now (judged.Refused refusal) = IsAtEnd new × IfSome old (λ bytes. RefusesParts certificates bytes refusal)
+Judges certificates old new before now judged.TooLong = TookMore text_limit old new
+Judges certificates old new before now judged.ReadFault = Rose before now
+Judges certificates old new before now judged.NoMemory = Unit {0}
 
 -- What was put is settled and the status is the whole one, or settling failed, or putting had failed.
 abbrev pub Settles : {T E : Type 0} → Option (List ℕ) → Option ℕ → Option ℕ → ℕ → ℕ → Result T E → ℕ → ℕ → Type 0

@@ -1,3 +1,4 @@
+pub mod Input
 pub mod Answer
 pub mod Parts
 pub mod Top

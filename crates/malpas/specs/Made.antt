@@ -1,5 +1,5 @@
 -- What is written of a made text: the summary, once the report of all its procedures is made; nothing where memory ran out.
-use Rattle.std.specs.Prelude.{◌≡◌, ℕ, ◌<◌, ◌≤◌, ◌⊎◌, List, length, Option, None, Some}
+use Rattle.std.specs.Prelude.{◌≡◌, ℕ, ◌<◌, ◌≤◌, ◌⊎◌, false, List, length, Option, None, Some}
 use Rattle.il_core.specs.Text.{Text}
 use Rattle.il_edge.specs.Faults.{Rose}
 use Rattle.il_edge.specs.Known.{Appends, AppendsPrefix, IsSettled}
@@ -7,7 +7,7 @@ use Rattle.made_text.specs.Made.{made_text}
 use Rattle.report.specs.declared.report.Report.{Report}
 use Rattle.report.specs.Status.{status_of}
 use Rattle.summary_text.specs.Summary.{summary_text}
-use Rattle.malpas.specs.Top.{OfText, Tells}
+use Rattle.malpas.specs.Top.{OfInput, Tells}
 
 -- The whole summary is written and settled, with the status of the report.
 pub record IsSummed (n : ℕ) (old new : Option (List ℕ)) (settled : Option ℕ) (t : Text) (report : Report) (status : ℕ) : Type 0 where
@@ -37,4 +37,5 @@ Summarises n old new settled_old settled_new before now t (Some report) status =
 
 -- What the report of a made text says, and what is written where the sink failed.
 abbrev pub IsMadeReported : ℕ → Option (List ℕ) → Option (List ℕ) → ℕ → Report → Type 0
-IsMadeReported n held_old held_new status report = OfText (Some (made_text n)) (λ t. Tells t report status × (status ≡ 4 → AppendsPrefix held_old held_new (summary_text n report)))
+IsMadeReported n held_old held_new status report =
+    OfInput false (Some (made_text n)) (λ t certs. Tells t certs report status × (status ≡ 4 → AppendsPrefix held_old held_new (summary_text n report)))

@@ -1,18 +1,19 @@
 -- What an outcome says: its status is that of what it holds, its text belongs to what it holds and to what the words ask for, and what it holds
--- belongs to the text that was read, or that was made.
-use Rattle.std.specs.Prelude.{◌≡◌, ℕ, ◌<◌, ◌≤◌, ◌⊎◌, ◌++◌, List, length, Option, None, Some, IfSome}
+-- belongs to the input that was read, or to the text that was made.
+use Rattle.std.specs.Prelude.{◌≡◌, ℕ, ◌<◌, ◌≤◌, ◌⊎◌, ◌++◌, Bool, false, List, length, Option, None, Some, IfSome}
 use Rattle.il_core.specs.Text.{Text}
+use Rattle.il_core.specs.declared.certificate.NamedCert.{NamedCert}
 use Rattle.il_core.specs.declared.refusal.Refusal.{Refusal}
 use Rattle.il_edge.specs.Known.{IsAtEnd, TookMore, Appends, AppendsPrefix, IsSettled}
 use Rattle.made_text.specs.Made.{made_text}
 use Rattle.report.specs.declared.report.Report.{Report}
-use Rattle.report.specs.Headline.{TablesHaveOneRowPerInput, CleanProceduresHaveNoBadRun, NoProcedureHasABadRun, EndingRunsHaveEqualValues}
+use Rattle.report.specs.Headline.{TablesHaveOneRowPerInput, CleanProceduresHaveNoBadRun, SettledProceduresHaveNoBadRun, NoProcedureHasABadRun, EndingRunsHaveEqualValues}
 use Rattle.report.specs.Reported.{IsReportOfFront}
 use Rattle.report.specs.Status.{status_of}
 use Rattle.report_text.specs.Report.{head_text, parts_text, report_text}
 use Rattle.report_text.specs.Refusal.{refusal_text, words_text}
-use Rattle.acceptance.specs.Acceptance.{Accepts, HasRefusal}
-use Rattle.malpas.specs.Answer.{text_limit, too_long}
+use Rattle.acceptance.specs.Acceptance.{HasRefusal}
+use Rattle.malpas.specs.Input.{text_limit, too_long, AcceptsInput, RefusesParts, RefusesInput, NoneUnasked}
 use Rattle.request.specs.Words.{Understands}
 use Rattle.request.specs.declared.selection.Selection.{Selection}
 use Rattle.request.specs.declared.spelt.Request.{Request}
@@ -36,10 +37,15 @@ line_text (Some refusal) = refusal_text refusal
 abbrev pub IfAsked : List (List ℕ) → (Request → Type 0) → Type 0
 IfAsked words Has = (request : Option Request) × Understands words request × IfSome request Has
 
--- The text of a request: all bytes that a source has left, or the made text of the number.
-abbrev pub text_asked : Option ℕ → Option (List ℕ) → Option (List ℕ)
-text_asked None left = left
-text_asked (Some n) left = Some (made_text n)
+-- The input of a request: all bytes that a source has left, or the made text of the number.
+abbrev pub input_asked : Option ℕ → Option (List ℕ) → Option (List ℕ)
+input_asked None left = left
+input_asked (Some n) left = Some (made_text n)
+
+-- Certificates are read where their section is selected and no text is made.
+abbrev pub reads_certificates : Option ℕ → Selection → Bool
+reads_certificates None sections = sections.certificates
+reads_certificates (Some n) sections = false
 
 -- The text of a whole report: its selected sections, or the summary where the text was made.
 abbrev pub whole_text : Option ℕ → Selection → Report → List ℕ
@@ -63,9 +69,11 @@ IsSilent report status = (status ≡ 3) ⊎ ((status ≡ 5) × (report ≡ None)
 abbrev pub IsForWords : Outcome → Type 0
 IsForWords outcome = (outcome.status ≡ 6) ⊎ ((outcome.status ≡ 4) × (outcome.refusal ≡ None) × (outcome.report ≡ None))
 
--- The bytes that a source had left are few enough and are accepted, and their checked text has this property. No text has two checked texts.
-abbrev pub OfText : Option (List ℕ) → (Text → Type 0) → Type 0
-OfText old Has = (t : Text) × IfSome old (λ bytes. (length bytes ≤ text_limit) × Accepts bytes t) × Has t
+-- An input, where its bytes are told, is accepted, and its checked text and its certificates have this property; there are no certificates
+-- where they are not asked for.
+abbrev pub OfInput : Bool → Option (List ℕ) → (Text → List NamedCert → Type 0) → Type 0
+OfInput certificates input Has =
+    (t : Text) × (certs : List NamedCert) × NoneUnasked certificates certs × IfSome input (λ bytes. AcceptsInput certificates bytes t certs) × Has t certs
 
 -- A report has all procedures of a text.
 abbrev pub HasAll : Report → Text → Type 0
@@ -75,18 +83,20 @@ HasAll report t = length report.procs ≡ length t.procs
 abbrev pub HasFewer : Report → Text → Type 0
 HasFewer report t = length report.procs < length t.procs
 
--- What a report that was written for a text says: it is that of the text's first procedures, at least one, of all of them where it was written
--- whole, and not of all where memory ran out. Each table of a region within its size has exactly one row for each input of the region, and
--- stepping the lines from the input gives the row's stop and values. Where a reducible procedure has every table within its size and every
--- threat refuted, no run from the precondition faults, fails an assertion or ends outside the postcondition; with status 0 this is so of each
--- procedure of the text. Ending runs that agree on a variable's reported sources give it equal values.
-pub record Tells (t : Text) (report : Report) (status : ℕ) : Type 0 where
-  pub reported : IsReportOfFront t report
+-- What a report that was written for a text and certificates says: it is that of the text's first procedures, at least one, with a row for each
+-- certificate that names one of them, of all of them where it was written whole, and not of all where memory ran out. Each table of a region
+-- within its size has exactly one row for each input of the region, and stepping the lines from the input gives the row's stop and values. Where
+-- a reducible procedure has every table within its size and every threat refuted, or refuted or certified by a row that holds, no run from the
+-- precondition faults, fails an assertion or ends outside the postcondition; with status 0 this is so of each procedure of the text. Ending runs
+-- that agree on a variable's reported sources give it equal values.
+pub record Tells (t : Text) (certs : List NamedCert) (report : Report) (status : ℕ) : Type 0 where
+  pub reported : IsReportOfFront certs t report
   pub some : 0 < length report.procs
   pub whole : status ≤ 1 → HasAll report t
   pub fewer : status ≡ 5 → HasFewer report t
   pub one_row : TablesHaveOneRowPerInput t report
   pub safe : CleanProceduresHaveNoBadRun t report
+  pub certified : SettledProceduresHaveNoBadRun t report
   pub clean : status ≡ 0 → NoProcedureHasABadRun t
   pub equal_values : EndingRunsHaveEqualValues t report
 
@@ -95,11 +105,12 @@ abbrev pub IsReadUp : Option ℕ → Option (List ℕ) → Type 0
 IsReadUp None left = IsAtEnd left
 IsReadUp (Some n) left = Unit {0}
 
--- The report says so of one text, the one that is asked for, which is read to its end where it is not made; and where the sink failed, what it
--- holds has grown by a prefix of what is due to that text and the report.
+-- The report says so of one text, that of the input that is asked for, which is read to its end where it is not made, and of its certificates;
+-- and where the sink failed, what it holds has grown by a prefix of what is due to that text and the report.
 abbrev pub IsReported : Option ℕ → Selection → Option (List ℕ) → Option (List ℕ) → Option (List ℕ) → Option (List ℕ) → ℕ → Report → Type 0
-IsReported made sections left_old left_new held_old held_new status report =
-    IsReadUp made left_new × OfText (text_asked made left_old) (λ t. Tells t report status × (status ≡ 4 → AppendsPrefix held_old held_new (due_text made sections t report)))
+IsReported made sections left_old left_new held_old held_new status report = IsReadUp made left_new
+    × OfInput (reads_certificates made sections) (input_asked made left_old) (λ t certs.
+    Tells t certs report status × (status ≡ 4 → AppendsPrefix held_old held_new (due_text made sections t report)))
 
 -- Where memory ran out, what the sink holds has grown by the parts of the report, and all of it is settled; by nothing where the text is made.
 abbrev pub IsCutShort : Option ℕ → Selection → Option (List ℕ) → Option (List ℕ) → Option ℕ → Option ℕ → Report → Type 0
@@ -111,18 +122,17 @@ abbrev pub KeepsOthers : Option ℕ → Selection → Option (List ℕ) → Opti
 KeepsOthers None sections old new settled report = KeepsParts sections old new settled report (before_last report.procs)
 KeepsOthers (Some n) sections old new settled report = Unit {0}
 
--- The refusal of the text that is asked for. Of bytes that were taken: there are too many, or they are all that there were and have this first
--- refusal.
-abbrev pub IsRefused : Option ℕ → Option (List ℕ) → Option (List ℕ) → Refusal → Type 0
-IsRefused None old new refusal =
-    ((refusal ≡ too_long) × TookMore text_limit old new) ⊎ (IsAtEnd new × IfSome old (λ text. (length text ≤ text_limit) × HasRefusal text refusal))
-IsRefused (Some n) old new refusal = HasRefusal (made_text n) refusal
+-- The refusal of the input that is asked for. Of bytes that were taken: there are too many, or they are all that there were, and this is the first
+-- refusal of their text or, where that has none, of their certificates.
+abbrev pub IsRefused : Option ℕ → Selection → Option (List ℕ) → Option (List ℕ) → Refusal → Type 0
+IsRefused None sections old new refusal =
+    ((refusal ≡ too_long) × TookMore text_limit old new) ⊎ (IsAtEnd new × IfSome old (λ bytes. RefusesParts sections.certificates bytes refusal))
+IsRefused (Some n) sections old new refusal = HasRefusal (made_text n) refusal
 
--- The refusal or the whole report that belongs to a text, with its status.
-abbrev pub BelongsTo : List ℕ → Option Refusal → Option Report → ℕ → Type 0
-BelongsTo text None None status = ⊥
-BelongsTo text None (Some report) status =
-    (status ≡ status_of report) × (length text ≤ text_limit) × ((t : Text) × Accepts text t × IsReportOfFront t report × HasAll report t)
-BelongsTo text (Some refusal) None status =
-    (status ≡ 2) × (((text_limit < length text) × (refusal ≡ too_long)) ⊎ ((length text ≤ text_limit) × HasRefusal text refusal))
-BelongsTo text (Some refusal) (Some report) status = ⊥
+-- The refusal or the whole report that belongs to an input, with its status.
+abbrev pub BelongsTo : Bool → List ℕ → Option Refusal → Option Report → ℕ → Type 0
+BelongsTo certificates input None None status = ⊥
+BelongsTo certificates input None (Some report) status = (status ≡ status_of report)
+    × ((t : Text) × (certs : List NamedCert) × AcceptsInput certificates input t certs × IsReportOfFront certs t report × HasAll report t)
+BelongsTo certificates input (Some refusal) None status = (status ≡ 2) × RefusesInput certificates input refusal
+BelongsTo certificates input (Some refusal) (Some report) status = ⊥

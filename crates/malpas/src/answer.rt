@@ -1,24 +1,25 @@
 ghost use Rattle.std.specs.Prelude.{◌≡◌, ◌≤◌, None, Some, length};
 ghost use Rattle.il_edge.specs.Known.{SameTold, Took};
 ghost use Rattle.report_text.specs.Refusal.{refusal_text, words_text};
-ghost use Rattle.malpas.specs.Answer.{text_limit, too_long, JudgesText, Judges, Settles, Sends};
+ghost use Rattle.malpas.specs.Answer.{JudgesBytes, Judges, Settles, Sends};
+ghost use Rattle.malpas.specs.Input.{text_limit, too_long};
 
+use crate::input::{Input, read_input};
 use crate::top::Outcome;
-use acceptance::accept;
-use il_core::{CheckedText, Code, Refusal, TextEnd};
+use il_core::{Code, Refusal, TextEnd};
 use il_edge::{Failed, ReadEnd, Sink, Source, read_all};
 use report_text::{put_refusal, put_words};
 use std::alloc::Global;
 
-/// The greatest number of bytes of a text.
+/// The greatest number of bytes of an input.
 const TEXT_LIMIT: usize = 1_048_576;
 
 /// What the bytes of a source are.
 #[derive(Drop)]
 pub(crate) enum Judged {
-    /// A text that is accepted.
-    Accepted(CheckedText),
-    /// A text with its first refusal.
+    /// An input that is accepted.
+    Accepted(Input),
+    /// An input with its first refusal.
     Refused(Refusal),
     /// Too many bytes.
     TooLong,
@@ -28,7 +29,7 @@ pub(crate) enum Judged {
     NoMemory,
 }
 
-/// The refusal of a text with too many bytes, at the first byte too many.
+/// The refusal of an input with too many bytes, at the first byte too many.
 pub(crate) fn too_long_refusal() -> Refusal
     ensures { result ≡ too_long }
 {
@@ -39,27 +40,27 @@ pub(crate) fn too_long_refusal() -> Refusal
     }
 }
 
-/// What a text is.
-fn judge_text(alloc: Global, text: &[u8]) -> Judged
-    requires { length text.now ≤ text_limit }
-    ensures { JudgesText text.now result }
+/// What an input of few enough bytes is.
+fn judge_bytes(alloc: Global, bytes: &[u8], certificates: bool) -> Judged
+    requires { length bytes.now ≤ text_limit }
+    ensures { JudgesBytes certificates bytes.now result }
 {
-    match accept(alloc, text) {
-        Ok(checked) => Judged::Accepted(checked),
+    match read_input(alloc, bytes, certificates) {
+        Ok(input) => Judged::Accepted(input),
         Err(TextEnd::Refused(refusal)) => Judged::Refused(refusal),
         Err(TextEnd::NoMemory) => Judged::NoMemory,
     }
 }
 
-/// What the bytes of a source are, which is read to its end.
-pub(crate) fn judge<S: Source>(alloc: Global, source: &mut S) -> Judged
-    ensures judged { Judges (S.left source.old) (S.left source.new) (S.faults source.old) (S.faults source.new) result }
+/// What the bytes of a source are, which is read to its end, with or without certificates behind the text.
+pub(crate) fn judge<S: Source>(alloc: Global, source: &mut S, certificates: bool) -> Judged
+    ensures judged { Judges certificates (S.left source.old) (S.left source.new) (S.faults source.old) (S.faults source.new) result }
     ensures taken { Took (S.left source.old) (S.left source.new) }
     ensures told { SameTold (S.left source.old) (S.left source.new) }
     ensures later { S.faults source.old ≤ S.faults source.new }
 {
     match read_all(alloc, source, TEXT_LIMIT) {
-        Ok(text) => judge_text(alloc, text.as_slice()),
+        Ok(bytes) => judge_bytes(alloc, bytes.as_slice(), certificates),
         Err(ReadEnd::Fault) => Judged::ReadFault,
         Err(ReadEnd::TooLong) => Judged::TooLong,
         Err(ReadEnd::NoMemory) => Judged::NoMemory,

@@ -1,4 +1,4 @@
-ghost use Rattle.std.specs.Prelude.{◌≡◌, ◌≢◌, ◌<◌, ◌≤◌, ◌⊎◌, [], None, length, IfSome, MatchResult};
+ghost use Rattle.std.specs.Prelude.{◌≡◌, ◌≢◌, ◌<◌, ◌≤◌, ◌⊎◌, false, [], None, length, IfSome, MatchResult};
 ghost use Rattle.il_core.specs.Text.{text_of};
 ghost use Rattle.il_edge.specs.Faults.{Rose};
 ghost use Rattle.il_edge.specs.Known.{SameTold, Appends, AppendsPrefix, IsSettled};
@@ -38,11 +38,11 @@ fn make_parts(alloc: Global, text: &CheckedText, report: &mut Report) -> Result<
     requires title { report.old.title ≡ text.now.title }
     requires profile { report.old.profile ≡ text.now.profile }
     requires none { report.old.procs ≡ [] }
-    ensures told_of { IsTold (text_of text.now) report.new }
+    ensures told_of { IsTold [] (text_of text.now) report.new }
     ensures made { MatchResult result (λ _. length report.new.procs ≡ length text.now.procs) (λ _. length report.new.procs < length text.now.procs) }
 {
     for proc in text.procs().as_slice() {
-        let part = match analyse_proc(alloc, proc) {
+        let part = match analyse_proc(alloc, proc, &[]) {
             Ok(part) => part,
             Err(NoMemory) => return Err(NoMemory),
         };
@@ -70,7 +70,7 @@ fn write_summary<K: Sink>(number: u8, report: &Report, sink: &mut K) -> u8
 /// Makes the report of a made text, and then writes its summary.
 fn summarise<K: Sink>(alloc: Global, number: u8, text: &CheckedText, sink: &mut K) -> Outcome
     ensures refusal { result.refusal ≡ None }
-    ensures told_of { IfSome result.report (λ report. IsTold (text_of text.now) report × (0 < length report.procs)) }
+    ensures told_of { IfSome result.report (λ report. IsTold [] (text_of text.now) report × (0 < length report.procs)) }
     ensures written { Summarises number (K.held sink.old) (K.held sink.new) (K.settled sink.old) (K.settled sink.new)
         (K.faults sink.old) (K.faults sink.new) (text_of text.now) result.report result.status }
     ensures untouched { result.status ≡ 5 → sink.new ≡ sink.old }
@@ -109,7 +109,7 @@ pub(crate) fn answer_made<K: Sink>(alloc: Global, number: u8, sink: &mut K) -> O
     ensures part { result.status ≡ 4 → result.report ≡ None → AppendsPrefix (K.held sink.old) (K.held sink.new) (line_text result.refusal) }
     ensures unsettled { result.status ≡ 4 → K.settled sink.new ≡ K.settled sink.old }
     ensures write_fault { result.status ≡ 4 → Rose (K.faults sink.old) (K.faults sink.new) }
-    ensures complete { ¬ (Rose (K.faults sink.old) (K.faults sink.new)) → (result.status ≡ 5) ⊎ BelongsTo (made_text number) result.refusal result.report result.status }
+    ensures complete { ¬ (Rose (K.faults sink.old) (K.faults sink.new)) → (result.status ≡ 5) ⊎ BelongsTo false (made_text number) result.refusal result.report result.status }
     ensures sink { SameTold (K.held sink.old) (K.held sink.new) × (K.faults sink.old ≤ K.faults sink.new) }
 {
     match accept_made(alloc, number) {

@@ -6,7 +6,10 @@
 
 mod answer;
 #[cfg(test)]
+mod cert_tests;
+#[cfg(test)]
 mod fault_tests;
+mod input;
 mod made;
 mod reporting;
 mod source_text;

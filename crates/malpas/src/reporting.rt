@@ -10,8 +10,9 @@ ghost use Rattle.malpas.specs.Answer.{Sends};
 ghost use Rattle.malpas.specs.Parts.{first_text, next_text, SendsNext, SendsParts, Reports};
 
 use crate::answer::settle;
+use crate::input::Input;
 use crate::top::Outcome;
-use il_core::{CheckedText, List, NoMemory};
+use il_core::{List, NoMemory};
 use il_edge::{Failed, Sink};
 use malpas_suite::analyse_proc;
 use report::{Report, status_of};
@@ -73,27 +74,28 @@ fn write_next<K: Sink>(report: &Report, selection: Selection, sink: &mut K) -> R
     }
 }
 
-/// Makes the report of each procedure of a text, adds it to `report`, which has none, and writes its part, before it
+/// Makes the report of each procedure of an input, adds it to `report`, which has none, and writes its part, before it
 /// makes the next.
 fn write_parts<K: Sink>(
     alloc: Global,
-    text: &CheckedText,
+    input: &Input,
     selection: Selection,
     report: &mut Report,
     sink: &mut K,
 ) -> Result<(), PartsEnd>
-    requires title { report.old.title ≡ text.now.title }
-    requires profile { report.old.profile ≡ text.now.profile }
+    requires title { report.old.title ≡ input.now.text.title }
+    requires profile { report.old.profile ≡ input.now.text.profile }
     requires none { report.old.procs ≡ [] }
-    ensures told_of { IsTold (text_of text.now) report.new }
+    ensures told_of { IsTold input.now.certs (text_of input.now.text) report.new }
     ensures sent { SendsParts selection (K.held sink.old) (K.held sink.new) (K.settled sink.new)
-        (K.faults sink.old) (K.faults sink.new) (length text.now.procs) report.new result }
+        (K.faults sink.old) (K.faults sink.new) (length input.now.text.procs) report.new result }
     ensures untouched { report.new.procs ≡ [] → sink.new ≡ sink.old }
     ensures told { SameTold (K.held sink.old) (K.held sink.new) }
     ensures later { K.faults sink.old ≤ K.faults sink.new }
 {
-    for proc in text.procs().as_slice() {
-        let part = match analyse_proc(alloc, proc) {
+    let certs = input.certs.as_slice();
+    for proc in input.text.procs().as_slice() {
+        let part = match analyse_proc(alloc, proc, certs) {
             Ok(part) => part,
             Err(NoMemory) => return Err(PartsEnd::NoMemory),
         };
@@ -122,27 +124,27 @@ fn write_end<K: Sink>(report: &Report, sink: &mut K) -> u8
     settle(sink, put, status)
 }
 
-/// Makes and writes the report of a text, procedure by procedure.
+/// Makes and writes the report of an input, procedure by procedure.
 pub(crate) fn report_on<K: Sink>(
     alloc: Global,
-    text: &CheckedText,
+    input: &Input,
     selection: Selection,
     sink: &mut K,
 ) -> Outcome
     ensures refusal { result.refusal ≡ None }
-    ensures told_of { IfSome result.report (λ report. IsTold (text_of text.now) report × (0 < length report.procs)) }
+    ensures told_of { IfSome result.report (λ report. IsTold input.now.certs (text_of input.now.text) report × (0 < length report.procs)) }
     ensures written { Reports selection (K.held sink.old) (K.held sink.new) (K.settled sink.new)
-        (K.faults sink.old) (K.faults sink.new) (text_of text.now) result.report result.status }
+        (K.faults sink.old) (K.faults sink.new) (text_of input.now.text) result.report result.status }
     ensures untouched { result.report ≡ None → sink.new ≡ sink.old }
     ensures told { SameTold (K.held sink.old) (K.held sink.new) }
     ensures later { K.faults sink.old ≤ K.faults sink.new }
 {
     let mut report = Report {
-        profile: text.profile(),
-        title: text.title(),
+        profile: input.text.profile(),
+        title: input.text.title(),
         procs: List::new(alloc),
     };
-    let status = match write_parts(alloc, text, selection, &mut report, sink) {
+    let status = match write_parts(alloc, input, selection, &mut report, sink) {
         Ok(()) => write_end(&report, sink),
         Err(PartsEnd::Failed) => 4,
         Err(PartsEnd::NoMemory) => 5,

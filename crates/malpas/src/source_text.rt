@@ -12,7 +12,8 @@ use il_edge::{Sink, Source};
 use request::Selection;
 use std::alloc::Global;
 
-/// Reads the text of a source, and writes its refusal, or the selected sections of its report.
+/// Reads the input of a source, and writes its refusal, or the selected sections of its report. It reads certificates
+/// behind the text where their section is selected.
 pub(crate) fn answer_source<S: Source, K: Sink>(
     alloc: Global,
     selection: Selection,
@@ -21,7 +22,7 @@ pub(crate) fn answer_source<S: Source, K: Sink>(
 ) -> Outcome
     ensures understood { ¬ (IsForWords result) }
     ensures taken { Took (S.left source.old) (S.left source.new) }
-    ensures refusal { IfSome result.refusal (IsRefused None (S.left source.old) (S.left source.new)) }
+    ensures refusal { IfSome result.refusal (IsRefused None selection (S.left source.old) (S.left source.new)) }
     ensures headline { IfSome result.report (IsReported None selection (S.left source.old) (S.left source.new) (K.held sink.old) (K.held sink.new) result.status) }
     ensures status { HasStatus result.refusal result.report result.status }
     ensures line { IsWritten result.status → result.report ≡ None → Appends (K.held sink.old) (K.held sink.new) (line_text result.refusal) }
@@ -37,12 +38,12 @@ pub(crate) fn answer_source<S: Source, K: Sink>(
     ensures read_fault { result.status ≡ 3 → Rose (S.faults source.old) (S.faults source.new) }
     ensures write_fault { result.status ≡ 4 → Rose (K.faults sink.old) (K.faults sink.new) }
     ensures complete { ¬ (Rose (S.faults source.old) (S.faults source.new)) → ¬ (Rose (K.faults sink.old) (K.faults sink.new))
-        → (result.status ≡ 5) ⊎ IfSome (S.left source.old) (λ text. BelongsTo text result.refusal result.report result.status) }
+        → (result.status ≡ 5) ⊎ IfSome (S.left source.old) (λ input. BelongsTo selection.certificates input result.refusal result.report result.status) }
     ensures source { SameTold (S.left source.old) (S.left source.new) × (S.faults source.old ≤ S.faults source.new) }
     ensures sink { SameTold (K.held sink.old) (K.held sink.new) × (K.faults sink.old ≤ K.faults sink.new) }
 {
-    match judge(alloc, source) {
-        Judged::Accepted(text) => report_on(alloc, &text, selection, sink),
+    match judge(alloc, source, selection.certificates) {
+        Judged::Accepted(input) => report_on(alloc, &input, selection, sink),
         Judged::Refused(refusal) => refuse(refusal, sink),
         Judged::TooLong => refuse(too_long_refusal(), sink),
         Judged::ReadFault => silent(3),

@@ -99,6 +99,14 @@ fn writes_the_summary_of_a_made_text(rt: HostRuntime) -> Result<(), Fail> {
         COPY,
         0,
         OF_THREE,
+    )?;
+    expect(
+        &rt,
+        rt.alloc(),
+        &["--certificates", "--generate=3"],
+        "%%\n",
+        0,
+        OF_THREE,
     )
 }
 

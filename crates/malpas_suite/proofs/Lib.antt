@@ -1,4 +1,6 @@
 mod Regions
+mod Rows
 mod Safe
+mod Settled
 mod SliceRows
 mod Tried

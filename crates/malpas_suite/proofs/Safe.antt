@@ -9,6 +9,7 @@ use Rattle.flow_graph.proofs.Members.{IsIn-from_map}
 use Rattle.il_core.specs.LineGraph.{IsIn}
 use Rattle.il_core.specs.Procedure.{Procedure}
 use Rattle.il_core.specs.Run.{HasNoBadRun}
+use Rattle.region_paths.specs.Region.{first_lines}
 use Rattle.region_paths.specs.Size.{IsPast}
 use Rattle.semantic_tables.specs.Table.{IsTable}
 use Rattle.semantic_tables.specs.declared.row.TableOr.{TableOr}
@@ -23,9 +24,13 @@ not_past : (p : Procedure) (loops : List LoopInfo) (pc : ℕ) (body : TableOr) �
 not_past p loops pc (Table rows) within table = table.0
 not_past p loops pc (Past limit) within table = absurd (false≢true within)
 
+-- where each table is within its size, none is
+pub none_past : (p : Procedure) (loops : List LoopInfo) (tables : List RegionTable) → AreTables p loops tables → ((t : RegionTable) → IsIn tables t → is_within t.body ≡ true)
+    → (pc : ℕ) → IsIn (first_lines loops) pc → IsPast p loops pc None
+none_past p loops tables made within pc first =
+    let found = IsIn-from_map first_of tables pc (subst (λ lines. IsIn lines pc) (sym made.regions) first) in
+    subst (λ q. IsPast p loops q None) found.2 (not_past p loops found.0.pc found.0.body (within found.0 found.1) (made.each found.0 found.1))
+
 pub safe_where_clean : (p : Procedure) (loops : List LoopInfo) (tables : List RegionTable) (threats : List Threat) → AreTables p loops tables → IsSafeWhereRefuted p loops threats
     → ((t : RegionTable) → IsIn tables t → is_within t.body ≡ true) → ((t : Threat) → IsIn threats t → t.verdict ≡ Refuted) → HasNoBadRun p
-safe_where_clean p loops tables threats made safe within refuted =
-    safe (λ pc first.
-    let found = IsIn-from_map first_of tables pc (subst (λ lines. IsIn lines pc) (sym made.regions) first) in
-    subst (λ q. IsPast p loops q None) found.2 (not_past p loops found.0.pc found.0.body (within found.0 found.1) (made.each found.0 found.1))) refuted
+safe_where_clean p loops tables threats made safe within refuted = safe (none_past p loops tables made within) refuted

@@ -28,18 +28,20 @@ inputs_more p loops [] (i ∷ is) t more h k = absurd h
 inputs_more p loops (x ∷ ts) is t more h k =
     behind_more p loops x.body x.pc (AreInputs p loops ts) (AreInputs p loops (ts ++ t ∷ [])) is more (λ js g. inputs_more p loops ts js t more g k) h
 
+-- what stands before the next one, and that one
+pub front_more : {X : Type 0} (xs : List X) (i : ℕ) (x : X) → i < length xs → x ≡ get_or xs i x → take (i + 1) xs ≡ take i xs ++ x ∷ []
+front_more xs i x inside here =
+    let next : i + 1 ≡ suc i = omega arith in ap (λ n. take n xs) next ∙ take-suc xs i x inside ∙ ap (λ y. take i xs ++ y ∷ []) (sym here)
+
 -- the next table
 pub inputs_next : (p : Procedure) (loops : List LoopInfo) (ts : List RegionTable) (i : ℕ) (t : RegionTable) (is after more : List RegionInputs) → i < length ts → t ≡ get_or ts i t
     → AreInputs p loops (take i ts) is → AreInputs p loops (t ∷ []) more → after ≡ is ++ more → AreInputs p loops (take (i + 1) ts) after
 inputs_next p loops ts i t is after more inside here h k e =
     subst (AreInputs p loops (take (i + 1) ts)) (sym e)
-    (subst (λ l. AreInputs p loops l (is ++ more)) (sym front) (inputs_more p loops (take i ts) is t more h k))
-  where
-    front : take (i + 1) ts ≡ take i ts ++ t ∷ []
-    front = let next : i + 1 ≡ suc i = omega arith in ap (λ n. take n ts) next ∙ take-suc ts i t inside ∙ ap (λ y. take i ts ++ y ∷ []) (sym here)
+    (subst (λ l. AreInputs p loops l (is ++ more)) (sym (front_more ts i t inside here)) (inputs_more p loops (take i ts) is t more h k))
 
--- a table is one of a list
-pub there : (ts : List RegionTable) (i : ℕ) (t : RegionTable) → i < length ts → t ≡ get_or ts i t → IsIn ts t
+-- what stands in a list is one of it
+pub there : {X : Type 0} (ts : List X) (i : ℕ) (t : X) → i < length ts → t ≡ get_or ts i t → IsIn ts t
 there ts i t inside here = subst (IsIn ts) (sym here) (IsIn-get_or ts i t inside)
 
 -- the region of a table begins at a first line

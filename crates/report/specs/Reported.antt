@@ -1,7 +1,8 @@
 -- The report of a procedure: its name, places, lines and arcs, its control structure and its reduction by intervals, and, exactly where it is
 -- reducible, its paths, the use of its variables, the flow of information, the slice for each variable, the table of each region with the test inputs
--- of its rows, and the threats with their verdicts. The report of a text, or of its first procedures, has the text's title and profile.
-use Rattle.std.specs.Prelude.{◌≡◌, ◌≤◌, ℕ, List, [], ◌∷◌, length, map, take, Option, None, Some}
+-- of its rows, and the threats with their verdicts, with a certificate for each that is refuted. It has a row for each of the given certificates that
+-- names it. The report of a text, or of its first procedures, has the text's title and profile.
+use Rattle.std.specs.Prelude.{◌≡◌, ◌≤◌, ℕ, List, [], ◌∷◌, length, map, take, Option, None, Some, IfSome}
 use Rattle.compliance.specs.Safe.{AreThreatsOf}
 use Rattle.control_flow.specs.Control.{IsControlOf}
 use Rattle.control_flow.specs.declared.control.LoopInfo.{LoopInfo}
@@ -13,12 +14,14 @@ use Rattle.flow_graph.specs.Graph.{graph_of}
 use Rattle.il_core.specs.LineGraph.{IsIn}
 use Rattle.il_core.specs.Procedure.{Procedure}
 use Rattle.il_core.specs.Text.{TextProcedure, Text}
+use Rattle.il_core.specs.declared.certificate.NamedCert.{NamedCert}
 use Rattle.info_flow.specs.Sources.{AreFlows}
 use Rattle.interval_reduce.specs.Derivation.{IsDerivationOf, Reduces}
 use Rattle.path_expr.specs.Report.{IsPathReportOf, WordsArePaths}
 use Rattle.region_paths.specs.Region.{first_lines}
 use Rattle.semantic_tables.specs.Table.{IsTable}
 use Rattle.report.specs.Inputs.{AreInputs}
+use Rattle.report.specs.Certified.{certs_for, threats_in, AreCertRows, AreMade}
 use Rattle.report.specs.Sliced.{AreSlices}
 use Rattle.report.specs.declared.report.RegionTable.{RegionTable}
 use Rattle.report.specs.declared.report.Analyses.{Analyses}
@@ -49,7 +52,8 @@ AreAnalysesBy p loops Reducible order (Some a) = AreAnalyses p loops order a
 AreAnalysesBy p loops (TwoEntries e) order None = Unit {0}
 AreAnalysesBy p loops (TwoEntries e) order (Some a) = ⊥
 
-pub record IsProcReportOf (p : TextProcedure) (r : ProcReport) : Type 0 where
+-- the report of a procedure, with rows for those of these certificates that name it
+pub record IsProcReportOf (certs : List NamedCert) (p : TextProcedure) (r : ProcReport) : Type 0 where
   pub name : r.name ≡ p.name
   pub places : r.places ≡ p.body.places
   pub lines : r.lines ≡ length p.body.lines
@@ -58,23 +62,25 @@ pub record IsProcReportOf (p : TextProcedure) (r : ProcReport) : Type 0 where
   pub derivation : IsDerivationOf (graph_of p.body) r.control.shape r.derivation
   pub reduces : Reduces (graph_of p.body) r.control.shape r.derivation
   pub analyses : AreAnalysesBy p.body r.control.loops r.control.shape r.derivation.order r.analyses
+  pub made : IfSome r.analyses (λ a. AreMade p.name p.body.places a.threats a.made)
+  pub rows : AreCertRows p.body.places (threats_in r.analyses) (certs_for p.name certs) r.certs
 
 -- one report for each procedure
-abbrev pub AreProcReportsOf : List TextProcedure → List ProcReport → Type 0
-AreProcReportsOf [] [] = Unit {0}
-AreProcReportsOf [] (r ∷ rs) = ⊥
-AreProcReportsOf (p ∷ ps) [] = ⊥
-AreProcReportsOf (p ∷ ps) (r ∷ rs) = IsProcReportOf p r × AreProcReportsOf ps rs
+abbrev pub AreProcReportsOf : List NamedCert → List TextProcedure → List ProcReport → Type 0
+AreProcReportsOf certs [] [] = Unit {0}
+AreProcReportsOf certs [] (r ∷ rs) = ⊥
+AreProcReportsOf certs (p ∷ ps) [] = ⊥
+AreProcReportsOf certs (p ∷ ps) (r ∷ rs) = IsProcReportOf certs p r × AreProcReportsOf certs ps rs
 
 -- the report of the first procedures of a text, as many as it holds
-pub record IsReportOfFront (t : Text) (r : Report) : Type 0 where
+pub record IsReportOfFront (certs : List NamedCert) (t : Text) (r : Report) : Type 0 where
   pub title : r.title ≡ t.title
   pub profile : r.profile ≡ t.profile
   pub few : length r.procs ≤ length t.procs
-  pub procs : AreProcReportsOf (take (length r.procs) t.procs) r.procs
+  pub procs : AreProcReportsOf certs (take (length r.procs) t.procs) r.procs
 
 -- the report of all procedures of a text
-pub record IsReportOf (t : Text) (r : Report) : Type 0 where
+pub record IsReportOf (certs : List NamedCert) (t : Text) (r : Report) : Type 0 where
   pub title : r.title ≡ t.title
   pub profile : r.profile ≡ t.profile
-  pub procs : AreProcReportsOf t.procs r.procs
+  pub procs : AreProcReportsOf certs t.procs r.procs

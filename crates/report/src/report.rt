@@ -3,7 +3,7 @@ use control_flow::Control;
 use data_use::UseRow;
 use flow_graph::Arc;
 use flow_slice::Fixed;
-use il_core::{List, Name, Place};
+use il_core::{List, Name, NamedCert, Place};
 use info_flow::FlowRow;
 use interval_reduce::Derivation;
 use path_expr::PathReport;
@@ -55,6 +55,17 @@ pub struct Analyses {
     pub inputs: List<RegionInputs>,
     /// The threats of all regions within their size, in order, each with its verdict.
     pub threats: List<Threat>,
+    /// A certificate for each refuted threat, in order.
+    pub made: List<NamedCert>,
+}
+
+/// What is said of a certificate that was read.
+#[derive(Clone, Copy, Drop)]
+pub struct CertRow {
+    /// The number of the threat that it is for, counted from 1.
+    pub threat: usize,
+    /// Whether there is such a threat and the certificate is accepted for it.
+    pub holds: bool,
 }
 
 /// The report of one procedure.
@@ -74,6 +85,8 @@ pub struct ProcReport {
     pub derivation: Derivation,
     /// The other analyses, exactly where it is reducible.
     pub analyses: Option<Analyses>,
+    /// A row for each certificate that was read for it, in order.
+    pub certs: List<CertRow>,
 }
 
 /// The report of a text, or of its first procedures.

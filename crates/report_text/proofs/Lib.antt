@@ -1,2 +1,3 @@
 pub mod Regions
 pub mod TriedRegions
+pub mod CertLines

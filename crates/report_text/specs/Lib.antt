@@ -4,5 +4,6 @@ pub mod Path
 pub mod Tables
 pub mod Threats
 pub mod Inputs
+pub mod Certificates
 pub mod Report
 pub mod Refusal

@@ -5,6 +5,7 @@ use Rattle.report.specs.Status.{status_of}
 use Rattle.report.specs.declared.report.ProcReport.{ProcReport}
 use Rattle.report.specs.declared.report.Report.{Report}
 use Rattle.request.specs.declared.selection.Selection.{Selection}
+use Rattle.report_text.specs.Certificates.{certificates_text}
 use Rattle.report_text.specs.Sections.{control_text, usage_text, flows_text, paths_text}
 use Rattle.report_text.specs.Inputs.{inputs_text}
 use Rattle.report_text.specs.Slices.{slices_text}
@@ -44,15 +45,26 @@ inputs_section p = elim p.analyses [ None ↦ codes "INPUTS\n" ++ not_reported |
 unfoldable pub compliance_section : ProcReport → List ℕ
 compliance_section p = elim p.analyses [ None ↦ codes "COMPLIANCE\n" ++ not_reported | Some a ↦ threats_text p.places a.tables a.threats ]
 
+unfoldable pub certificates_section : ProcReport → List ℕ
+certificates_section p = elim p.analyses [ None ↦ codes "CERTIFICATES\n" ++ not_reported | Some a ↦ certificates_text p.certs a.made ]
+
 -- the line of a procedure
 unfoldable pub title_text : ProcReport → List ℕ
 title_text p = codes "PROCEDURE " ++ p.name ++ codes " LINES " ++ decimal p.lines ++ codes "\n"
 
+-- the line of a procedure, and what is selected of the sections on its lines and its graph
+unfoldable pub graph_text : Selection → ProcReport → List ℕ
+graph_text selection p = title_text p ++ chosen selection.control (control_text p.control p.derivation) ++ chosen selection.usage (usage_section p)
+    ++ chosen selection.flow (flow_section p) ++ chosen selection.slice (slice_section p) ++ chosen selection.paths (paths_section p)
+
+-- what is selected of the sections on its values
+unfoldable pub values_text : Selection → ProcReport → List ℕ
+values_text selection p = chosen selection.semantic (semantic_section p) ++ chosen selection.inputs (inputs_section p)
+    ++ chosen selection.compliance (compliance_section p) ++ chosen selection.certificates (certificates_section p)
+
 -- the part of a procedure
 unfoldable pub part_text : Selection → ProcReport → List ℕ
-part_text selection p = title_text p ++ chosen selection.control (control_text p.control p.derivation) ++ chosen selection.usage (usage_section p)
-    ++ chosen selection.flow (flow_section p) ++ chosen selection.slice (slice_section p) ++ chosen selection.paths (paths_section p)
-    ++ chosen selection.semantic (semantic_section p) ++ chosen selection.inputs (inputs_section p) ++ chosen selection.compliance (compliance_section p)
+part_text selection p = graph_text selection p ++ values_text selection p
 
 -- the last line
 unfoldable pub end_text : ℕ → List ℕ

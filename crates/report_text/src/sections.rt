@@ -2,8 +2,9 @@ ghost use Rattle.std.specs.Prelude.{◌≡◌};
 ghost use Rattle.il_edge.specs.Faults.{HasCause};
 ghost use Rattle.il_edge.specs.Known.{SameTold};
 ghost use Rattle.form_text.specs.Pieces.{Puts, Writes};
-ghost use Rattle.report_text.specs.Report.{compliance_section, flow_section, inputs_section, paths_section, semantic_section, slice_section, usage_section};
+ghost use Rattle.report_text.specs.Report.{certificates_section, compliance_section, flow_section, inputs_section, paths_section, semantic_section, slice_section, usage_section};
 
+use crate::certificates::put_certificates;
 use crate::flows::put_flows;
 use crate::inputs::put_inputs;
 use crate::paths::put_paths;
@@ -110,5 +111,19 @@ pub(crate) fn put_compliance_section<K: Sink>(part: &ProcReport, sink: &mut K) -
             analyses.threats.as_slice(),
             sink,
         ),
+    }
+}
+
+/// Writes the section on certificates, or that it is not given. It fails as the one on use does.
+#[tactic(auto, unfolding(crate::specs::Report::certificates_section))]
+pub(crate) fn put_certificates_section<K: Sink>(
+    part: &ProcReport,
+    sink: &mut K,
+) -> Result<(), Failed>
+    ensures { Puts K.held K.settled K.faults sink.old sink.new result (certificates_section part.now) }
+{
+    match &part.analyses {
+        None => put(sink, &[b"CERTIFICATES\nNOT REPORTED IRREDUCIBLE\n"]),
+        Some(analyses) => put_certificates(part.certs.as_slice(), analyses.made.as_slice(), sink),
     }
 }

@@ -4,7 +4,7 @@ use Rattle.std.specs.Prelude.{Option, Some, None, codes, bytes_eq, not}
 use Rattle.std.proofs.lemmas.Slice.Eq.{bytes_eq-Decides}
 use Rattle.request.specs.declared.selection.Selection.{Selection}
 use Rattle.request.specs.declared.section.Section.{Section}
-use Rattle.request.specs.declared.section.Section.TheVariants.{Control, Usage, Flow, Slice, Paths, Semantic, Inputs, Compliance}
+use Rattle.request.specs.declared.section.Section.TheVariants.{Control, Usage, Flow, Slice, Paths, Semantic, Inputs, Compliance, Certificates}
 use Rattle.request.specs.Words.{section_word, named, selected, six_reports}
 use Rattle.request.specs.Reading.{section_of, with_section, selection_of}
 use Rattle.request.proofs.Numbers.{not_some}
@@ -20,6 +20,7 @@ word_named Paths = refl
 word_named Semantic = refl
 word_named Inputs = refl
 word_named Compliance = refl
+word_named Certificates = refl
 
 -- one step of the choice among words
 chosen : (word spelt : List ℕ) (x s : Section) (rest : Option Section) → spelt ≡ section_word x → (rest ≡ Some s → word ≡ section_word s)
@@ -40,7 +41,8 @@ named_word word s h =
     (chosen word (codes "--paths") Paths s _ refl
     (chosen word (codes "--semantic") Semantic s _ refl
     (chosen word (codes "--inputs") Inputs s _ refl
-    (chosen word (codes "--compliance") Compliance s None refl (λ g. absurd (not_some s g))))))))) h
+    (chosen word (codes "--compliance") Compliance s _ refl
+    (chosen word (codes "--certificates") Certificates s None refl (λ g. absurd (not_some s g)))))))))) h
 
 -- these sections, with those that were selected before
 abbrev pub adding : Selection → List Section → Selection
@@ -58,6 +60,7 @@ joined a b = record {
   semantic = a.semantic || b.semantic;
   inputs = a.inputs || b.inputs;
   compliance = a.compliance || b.compliance;
+  certificates = a.certificates || b.certificates;
 }
 
 abbrev pub no_section : Selection
@@ -70,6 +73,7 @@ no_section = record {
   semantic = false;
   inputs = false;
   compliance = false;
+  certificates = false;
 }
 
 or_true : (b : Bool) → (b || true) ≡ true
@@ -86,6 +90,7 @@ joined_more s Paths xs = ap (λ (b : Bool). record (joined s (named (Paths ∷ x
 joined_more s Semantic xs = ap (λ (b : Bool). record (joined s (named (Semantic ∷ xs))) { semantic = b }) (sym (or_true s.semantic))
 joined_more s Inputs xs = ap (λ (b : Bool). record (joined s (named (Inputs ∷ xs))) { inputs = b }) (sym (or_true s.inputs))
 joined_more s Compliance xs = ap (λ (b : Bool). record (joined s (named (Compliance ∷ xs))) { compliance = b }) (sym (or_true s.compliance))
+joined_more s Certificates xs = ap (λ (b : Bool). record (joined s (named (Certificates ∷ xs))) { certificates = b }) (sym (or_true s.certificates))
 
 or_false : (b : Bool) → (b || false) ≡ b
 or_false true = refl
@@ -98,10 +103,11 @@ joined_none s =
     ∙ ap (λ (b : Bool). record (joined s (named [])) { control = s.control; usage = b }) (or_false s.usage)
     ∙ ap (λ (b : Bool). record (joined s (named [])) { control = s.control; usage = s.usage; flow = b }) (or_false s.flow)
     ∙ ap (λ (b : Bool). record (joined s (named [])) { control = s.control; usage = s.usage; flow = s.flow; slice = b }) (or_false s.slice)
-    ∙ ap (λ (b : Bool). record s { paths = b; semantic = s.semantic || false; inputs = s.inputs || false; compliance = s.compliance || false }) (or_false s.paths)
-    ∙ ap (λ (b : Bool). record s { semantic = b; inputs = s.inputs || false; compliance = s.compliance || false }) (or_false s.semantic)
-    ∙ ap (λ (b : Bool). record s { inputs = b; compliance = s.compliance || false }) (or_false s.inputs)
-    ∙ ap (λ (b : Bool). record s { compliance = b }) (or_false s.compliance)
+    ∙ ap (λ (b : Bool). record (joined s (named [])) { control = s.control; usage = s.usage; flow = s.flow; slice = s.slice; paths = b }) (or_false s.paths)
+    ∙ ap (λ (b : Bool). record s { semantic = b; inputs = s.inputs || false; compliance = s.compliance || false; certificates = s.certificates || false }) (or_false s.semantic)
+    ∙ ap (λ (b : Bool). record s { inputs = b; compliance = s.compliance || false; certificates = s.certificates || false }) (or_false s.inputs)
+    ∙ ap (λ (b : Bool). record s { compliance = b; certificates = s.certificates || false }) (or_false s.compliance)
+    ∙ ap (λ (b : Bool). record s { certificates = b }) (or_false s.certificates)
 
 adding_joined : (s : Selection) (xs : List Section) → adding s xs ≡ joined s (named xs)
 adding_joined s [] = sym (joined_none s)
@@ -110,13 +116,14 @@ adding_joined s (x ∷ xs) = adding_joined (with_section s x) xs ∙ joined_more
 -- named sections are selected as they are
 selects : (x : Section) (xs : List Section) → selection_of (named (x ∷ xs)) ≡ named (x ∷ xs)
 selects Control xs = refl
-selects Usage xs = let n = named (Usage ∷ xs) in ap (λ (z : Bool). if not (z || n.flow || n.slice || n.paths || n.semantic || n.inputs || n.compliance) then six_reports else n) (or_true n.control)
-selects Flow xs = let n = named (Flow ∷ xs) in ap (λ (z : Bool). if not (z || n.slice || n.paths || n.semantic || n.inputs || n.compliance) then six_reports else n) (or_true (n.control || n.usage))
-selects Slice xs = let n = named (Slice ∷ xs) in ap (λ (z : Bool). if not (z || n.paths || n.semantic || n.inputs || n.compliance) then six_reports else n) (or_true (n.control || n.usage || n.flow))
-selects Paths xs = let n = named (Paths ∷ xs) in ap (λ (z : Bool). if not (z || n.semantic || n.inputs || n.compliance) then six_reports else n) (or_true (n.control || n.usage || n.flow || n.slice))
-selects Semantic xs = let n = named (Semantic ∷ xs) in ap (λ (z : Bool). if not (z || n.inputs || n.compliance) then six_reports else n) (or_true (n.control || n.usage || n.flow || n.slice || n.paths))
-selects Inputs xs = let n = named (Inputs ∷ xs) in ap (λ (z : Bool). if not (z || n.compliance) then six_reports else n) (or_true (n.control || n.usage || n.flow || n.slice || n.paths || n.semantic))
-selects Compliance xs = let n = named (Compliance ∷ xs) in ap (λ (z : Bool). if not z then six_reports else n) (or_true (n.control || n.usage || n.flow || n.slice || n.paths || n.semantic || n.inputs))
+selects Usage xs = let n = named (Usage ∷ xs) in ap (λ (z : Bool). if not (z || n.flow || n.slice || n.paths || n.semantic || n.inputs || n.compliance || n.certificates) then six_reports else n) (or_true n.control)
+selects Flow xs = let n = named (Flow ∷ xs) in ap (λ (z : Bool). if not (z || n.slice || n.paths || n.semantic || n.inputs || n.compliance || n.certificates) then six_reports else n) (or_true (n.control || n.usage))
+selects Slice xs = let n = named (Slice ∷ xs) in ap (λ (z : Bool). if not (z || n.paths || n.semantic || n.inputs || n.compliance || n.certificates) then six_reports else n) (or_true (n.control || n.usage || n.flow))
+selects Paths xs = let n = named (Paths ∷ xs) in ap (λ (z : Bool). if not (z || n.semantic || n.inputs || n.compliance || n.certificates) then six_reports else n) (or_true (n.control || n.usage || n.flow || n.slice))
+selects Semantic xs = let n = named (Semantic ∷ xs) in ap (λ (z : Bool). if not (z || n.inputs || n.compliance || n.certificates) then six_reports else n) (or_true (n.control || n.usage || n.flow || n.slice || n.paths))
+selects Inputs xs = let n = named (Inputs ∷ xs) in ap (λ (z : Bool). if not (z || n.compliance || n.certificates) then six_reports else n) (or_true (n.control || n.usage || n.flow || n.slice || n.paths || n.semantic))
+selects Compliance xs = let n = named (Compliance ∷ xs) in ap (λ (z : Bool). if not (z || n.certificates) then six_reports else n) (or_true (n.control || n.usage || n.flow || n.slice || n.paths || n.semantic || n.inputs))
+selects Certificates xs = let n = named (Certificates ∷ xs) in ap (λ (z : Bool). if not z then six_reports else n) (or_true (n.control || n.usage || n.flow || n.slice || n.paths || n.semantic || n.inputs || n.compliance))
 
 -- once all words are read, the sections that they name are selected, or each where they name none
 pub selection_is : (xs : List Section) → selection_of (adding no_section xs) ≡ selected xs

@@ -6,7 +6,7 @@ use Rattle.request.specs.declared.asked.Asked.{Asked}
 use Rattle.request.specs.declared.asked.Number.{Number}
 use Rattle.request.specs.declared.asked.Number.TheVariants.{Untold, Due, Told}
 use Rattle.request.specs.declared.section.Section.{Section}
-use Rattle.request.specs.declared.section.Section.TheVariants.{Control, Usage, Flow, Slice, Paths, Semantic, Inputs, Compliance}
+use Rattle.request.specs.declared.section.Section.TheVariants.{Control, Usage, Flow, Slice, Paths, Semantic, Inputs, Compliance, Certificates}
 use Rattle.request.specs.declared.spelt.Request.{Request}
 use Rattle.request.specs.Words.{six_reports}
 
@@ -21,7 +21,8 @@ section_of word =
     else (if bytes_eq word (codes "--semantic") then Some Semantic
     else (if bytes_eq word (codes "--inputs") then Some Inputs
     else (if bytes_eq word (codes "--compliance") then Some Compliance
-    else None)))))))
+    else (if bytes_eq word (codes "--certificates") then Some Certificates
+    else None))))))))
 
 -- the number, up to this one, whose digits stand behind the front in the word
 unfoldable pub number_to : List ℕ → ℕ → List ℕ → Option ℕ
@@ -48,6 +49,7 @@ with_section s Paths = record s { paths = true }
 with_section s Semantic = record s { semantic = true }
 with_section s Inputs = record s { inputs = true }
 with_section s Compliance = record s { compliance = true }
+with_section s Certificates = record s { certificates = true }
 
 abbrev pub told : Selection → Option ℕ → Option Asked
 told sections None = None
@@ -70,7 +72,7 @@ abbrev pub after_word : Asked → List ℕ → Option Asked
 after_word asked word = after_at asked word asked.number
 
 abbrev pub is_none : Selection → Bool
-is_none s = not (s.control || s.usage || s.flow || s.slice || s.paths || s.semantic || s.inputs || s.compliance)
+is_none s = not (s.control || s.usage || s.flow || s.slice || s.paths || s.semantic || s.inputs || s.compliance || s.certificates)
 
 abbrev pub selection_of : Selection → Selection
 selection_of s = if is_none s then six_reports else s

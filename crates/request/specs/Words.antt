@@ -3,7 +3,7 @@ use Rattle.std.specs.Prelude.{◌≡◌, ℕ, ◌≤◌, Bool, true, false, List
 use Rattle.std.specs.List.{flat_map, list_any}
 use Rattle.request.specs.declared.selection.Selection.{Selection}
 use Rattle.request.specs.declared.section.Section.{Section}
-use Rattle.request.specs.declared.section.Section.TheVariants.{Control, Usage, Flow, Slice, Paths, Semantic, Inputs, Compliance}
+use Rattle.request.specs.declared.section.Section.TheVariants.{Control, Usage, Flow, Slice, Paths, Semantic, Inputs, Compliance, Certificates}
 use Rattle.request.specs.declared.spelt.Request.{Request}
 
 -- what one or two words ask for: a section, or a text of this number, which is told apart or in the same word
@@ -22,6 +22,7 @@ section_word Paths = codes "--paths"
 section_word Semantic = codes "--semantic"
 section_word Inputs = codes "--inputs"
 section_word Compliance = codes "--compliance"
+section_word Certificates = codes "--certificates"
 
 -- the words of a wish
 abbrev pub spelling : Wish → List (List ℕ)
@@ -73,6 +74,10 @@ abbrev pub is_compliance : Section → Bool
 is_compliance Compliance = true
 is_compliance _ = false
 
+abbrev pub is_certificates : Section → Bool
+is_certificates Certificates = true
+is_certificates _ = false
+
 -- the sections that are asked for
 abbrev pub named : List Section → Selection
 named sections = record {
@@ -84,9 +89,10 @@ named sections = record {
   semantic = list_any is_semantic sections;
   inputs = list_any is_inputs sections;
   compliance = list_any is_compliance sections;
+  certificates = list_any is_certificates sections;
 }
 
--- the six reports: each section but the slices and the test inputs
+-- the six reports: each section but the slices, the test inputs and the certificates
 abbrev pub six_reports : Selection
 six_reports = record {
   control = true;
@@ -97,6 +103,7 @@ six_reports = record {
   semantic = true;
   inputs = false;
   compliance = true;
+  certificates = false;
 }
 
 -- the sections that are asked for, or the six reports where none is

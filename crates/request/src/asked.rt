@@ -34,9 +34,10 @@ const NONE: Selection = Selection {
     semantic: false,
     inputs: false,
     compliance: false,
+    certificates: false,
 };
 
-/// The six reports: each section but the slices and the test inputs.
+/// The six reports: each section but the slices, the test inputs and the certificates.
 const SIX: Selection = Selection {
     control: true,
     usage: true,
@@ -46,6 +47,7 @@ const SIX: Selection = Selection {
     semantic: true,
     inputs: false,
     compliance: true,
+    certificates: false,
 };
 
 /// What no words ask for.
@@ -67,6 +69,7 @@ fn with_section(sections: Selection, section: Section) -> Selection
         Section::Semantic => sections.semantic = true,
         Section::Inputs => sections.inputs = true,
         Section::Compliance => sections.compliance = true,
+        Section::Certificates => sections.certificates = true,
     }
     sections
 }

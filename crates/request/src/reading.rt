@@ -4,9 +4,9 @@ ghost use Rattle.request.specs.Words.{OneRequest, Understands};
 use crate::asked::{NOTHING, after_word, request_of};
 use crate::spelt::Request;
 
-/// The request that the words spell: `--control`, `--use`, `--flow`, `--slice`, `--paths`, `--semantic`, `--inputs` and
-/// `--compliance` name sections, in any order, also repeated, and all but the slices and the test inputs are selected
-/// where none is named; `--generate N` in two words, or `--generate=N` in one, asks for
+/// The request that the words spell: `--control`, `--use`, `--flow`, `--slice`, `--paths`, `--semantic`, `--inputs`,
+/// `--compliance` and `--certificates` name sections, in any order, also repeated, and all but the slices, the test inputs
+/// and the certificates are selected where none is named; `--generate N` in two words, or `--generate=N` in one, asks for
 /// a made text, at most once, with N from 1 to 200 in digits without leading zeros. The word behind `--generate` is N,
 /// whatever it is. `None` comes exactly where the words spell no request. It goes over the words once and takes no memory;
 /// the cost is linear in their bytes.

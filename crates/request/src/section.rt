@@ -12,6 +12,7 @@ pub(crate) enum Section {
     Semantic,
     Inputs,
     Compliance,
+    Certificates,
 }
 
 /// The section that a word asks for.
@@ -28,6 +29,7 @@ pub(crate) fn section_of(word: &str) -> Option<Section>
         "--semantic" => Some(Section::Semantic),
         "--inputs" => Some(Section::Inputs),
         "--compliance" => Some(Section::Compliance),
+        "--certificates" => Some(Section::Certificates),
         _ => None,
     }
 }

@@ -17,4 +17,6 @@ pub struct Selection {
     pub inputs: bool,
     /// The threats, with their verdicts.
     pub compliance: bool,
+    /// The certificates of threats: what is said of those that were read, and those that were made.
+    pub certificates: bool,
 }

@@ -4,8 +4,8 @@ use request::{Request, Selection, read_words};
 use std::alloc::Global;
 use std::test::Fail;
 
-/// Words, and what they ask for: the letters of the sections that are selected (control C, use U, flow F, paths P,
-/// semantic S, inputs I, compliance M), and the number of the text that is to be made, 0 where a text is read.
+/// Words, and what they ask for: the letters of the sections that are selected (control C, use U, flow F, slice L, paths P,
+/// semantic S, inputs I, compliance M, certificates K), and the number of the text that is to be made, 0 where a text is read.
 type Asked<'a> = (&'a [&'a str], &'a str, u8);
 
 /// Report words: any order, repeats allowed; no report word means all.
@@ -21,7 +21,10 @@ const REPORTS: &[Asked<'_>] = &[
     (&["--inputs"], "I", 0),
     (&["--inputs", "--semantic"], "SI", 0),
     (&["--compliance"], "M", 0),
+    (&["--certificates"], "K", 0),
+    (&["--certificates", "--compliance"], "MK", 0),
     (&["--inputs", "--slice", "--inputs"], "LI", 0),
+    (&["--certificates", "--slice", "--certificates"], "LK", 0),
     (&["--flow", "--flow"], "F", 0),
     (&["--flow", "--use"], "UF", 0),
     (&["--use", "--flow"], "UF", 0),
@@ -62,6 +65,7 @@ const NUMBERS: &[Asked<'_>] = &[
     (&["--generate", "3", "--flow"], "F", 3),
     (&["--flow", "--generate=3"], "F", 3),
     (&["--inputs", "--generate=3", "--slice"], "LI", 3),
+    (&["--certificates", "--generate", "3"], "K", 3),
     (&["--flow", "--flow", "--generate=20", "--flow"], "F", 20),
 ];
 
@@ -84,6 +88,9 @@ const UNKNOWN: &[&[&str]] = &[
     &["--flo"],
     &["--input"],
     &["--inputs=1"],
+    &["--certificate"],
+    &["--certificates=1"],
+    &["--certificates", "1"],
     &["--flow", "--nosuch"],
     &["--nosuch", "--flow"],
     &["3"],
@@ -142,6 +149,7 @@ fn selection_of(letters: &str) -> Selection {
         semantic: letters.contains('S'),
         inputs: letters.contains('I'),
         compliance: letters.contains('M'),
+        certificates: letters.contains('K'),
     }
 }
 

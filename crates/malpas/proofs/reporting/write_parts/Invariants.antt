@@ -6,6 +6,6 @@ use Rattle.malpas.proofs.reporting.write_parts.Given as goal
 abbrev pub invariant-loop-proc : goal.invariant-loop-proc
 invariant-loop-proc g l = record {
   so_far : AreSoFar l.selection (g.K.Sink.held l.fn.sink) (g.K.Sink.held l.sink) (g.K.Sink.settled l.sink) (g.K.Sink.faults l.fn.sink) (g.K.Sink.faults l.sink)
-      (text_of l.text) l.proc-index l.report;
+      l.input.certs (text_of l.input.text) l.proc-index l.report;
   untouched : l.report.procs ≡ [] → l.sink ≡ l.fn.sink;
 }

@@ -1,12 +1,15 @@
-use Rattle.std.proofs.Common.{◌≡◌, sym, ◌∙◌}
+use Rattle.std.proofs.Common.{sym, ◌∙◌}
 use Rattle.il_core.specs.Checked.{procedure_of}
 use Rattle.malpas_suite.proofs.Safe.{safe_where_clean}
 use Rattle.malpas_suite.proofs.analysis.analyses_of.Goals as goal
 
+pub made_of-requires : goal.made_of-requires
+made_of-requires c =
+    rw c.as_slice-2.ensures (c.listed_threats_are_sound.ensures (procedure_of c.args.proc.now) c.args.control.now.loops c.in_ok-threats.threats c.places.ensures.checked c.in_ok-threats.ensures.threats)
+
 pub returns-clause-safe : goal.returns-clause-safe
 returns-clause-safe c =
-    let same : c.tables.inside.items.items ≡ c.in_ok-tables.tables = c.tables.view_is in
-    rw same (safe_where_clean (procedure_of c.args.proc.now) c.args.control.now.loops c.in_ok-tables.tables c.in_ok-threats.field-0 c.in_ok-tables.ensures.tables c.in_ok-threats.ensures.safe)
+    safe_where_clean (procedure_of c.args.proc.now) c.args.control.now.loops c.in_ok-tables.tables c.in_ok-threats.threats c.in_ok-tables.ensures.tables c.in_ok-threats.ensures.safe
 
 pub returns-clause-equal_values : goal.returns-clause-equal_values
 returns-clause-equal_values c =

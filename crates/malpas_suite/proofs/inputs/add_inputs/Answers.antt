@@ -1,9 +1,8 @@
-use Rattle.std.proofs.Common.{◌≡◌, refl, sym, append-nil, List, [], ◌∷◌, ◌++◌, map, length, Result, Ok, Err, IfOk}
+use Rattle.std.proofs.Common.{refl, sym, append-nil, [], ◌∷◌, map, Result, Ok, Err, IfOk}
 use Rattle.std.specs.Prelude.{OnOk}
 use Rattle.il_core.specs.Checked.{procedure_of}
 use Rattle.semantic_tables.specs.Row.{row_of}
 use Rattle.row_inputs.specs.Input.{TestInputsAre}
-use Rattle.report.specs.Inputs.{AreInputs}
 use Rattle.malpas_suite.proofs.inputs.add_inputs.Goals as goal
 
 pub inputs-requires-clause-fits : goal.inputs-requires-clause-fits

@@ -5,6 +5,6 @@ use Rattle.malpas_suite.proofs.whole.analyse.Given as goal
 
 abbrev pub invariant-loop-proc : goal.invariant-loop-proc
 invariant-loop-proc l = record {
-  told : IsTold (text_of l.text) l.report;
+  told : IsTold l.certs (text_of l.text) l.report;
   made : length l.report.procs ≡ l.proc-index;
 }
