@@ -2,11 +2,16 @@
 # What the scripts know of the program: where it stands once it is built, which crates it is built from, and whether it is older than
 # their sources. A script sets top, the folder of the repository, before it reads this file.
 
-program="$top/crates/malpas/out/malpas"
+# The name under which a script is called says which program it is for: malpas, or the one that lists literals.
+case ${0##*/} in
+  *literals) own=malpas_literals unproved=./quick_literals ;;
+  *) own=malpas unproved=./quick ;;
+esac
+program="$top/crates/$own/out/$own"
 
 # The crates that the program stands on, by crates.txt, each after those that it stands on, the program's own last.
 crates_of_program() {
-  awk '
+  awk -v own="$own" '
     { sub(/#.*/, "") }
     /:/ { head = $0; sub(/:.*/, "", head); split(head, words, " "); deps = $0; sub(/[^:]*:/, "", deps); below[words[1]] = deps }
     function visit(name, list, n, k) {
@@ -16,7 +21,7 @@ crates_of_program() {
       for (k = 1; k <= n; k++) visit(list[k])
       print name
     }
-    END { visit("malpas") }
+    END { visit(own) }
   ' "$top/crates.txt"
 }
 

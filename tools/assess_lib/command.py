@@ -9,6 +9,8 @@ import sys
 from typing import NoReturn, Optional, Sequence
 
 from assess_lib import VERSION
+from assess_lib.certify import certify, find_literals
+from assess_lib.certify import LIMIT as CERTIFY_LIMIT
 from assess_lib.check import check
 from assess_lib.folder import assess_folder, run_one
 from assess_lib.page import write_page
@@ -16,7 +18,10 @@ from assess_lib.program import NoProgram, Status, find_program
 from assess_lib.propose import LIMIT, propose
 
 _STOPPED = 130
-_ABOUT = "Runs malpas on texts and says what it found: for an editor, as a page, for a folder, or as a text with more assertions."
+_ABOUT = (
+    "Runs malpas on texts and says what it found: for an editor, as a page, for a folder, or as a text with more assertions or with "
+    "certificates."
+)
 _STATUSES = (
     "exit status: that of malpas, the greatest of several texts: 0 a report that leaves nothing open, 1 a report that "
     "leaves something open, 2 refused, 3 not read, 4 not written, 5 out of memory, 6 words not understood, 7 malpas not started"
@@ -55,6 +60,16 @@ def _parser() -> argparse.ArgumentParser:
     proposes.add_argument(
         "--seconds", metavar="N", type=float, default=LIMIT, help="try no more after N seconds in a procedure; else %(default)g"
     )
+    certifies = words.add_parser(
+        "certify", parents=[common], help="write a text with certificates for its open threats, which malpas checks", epilog=_STATUSES
+    )
+    certifies.add_argument("file", metavar="FILE")
+    certifies.add_argument(
+        "--literals", metavar="PATH", help="the malpas_literals to run; else that of MALPAS_LITERALS, beside malpas, or on PATH"
+    )
+    certifies.add_argument(
+        "--seconds", metavar="N", type=float, default=CERTIFY_LIMIT, help="give up a threat after N seconds; else %(default)g"
+    )
     one = words.add_parser("one", parents=[common])
     one.add_argument("file", metavar="FILE")
     return parser
@@ -77,6 +92,9 @@ def _run(words: argparse.Namespace) -> int:
         return write_page(words.file, program, sys.stdout, sys.stderr)
     if words.word == "propose":
         return propose(words.file, program, sys.stdout, sys.stderr, words.seconds)
+    if words.word == "certify":
+        literals = find_literals(program, words.literals)
+        return certify(words.file, program, literals, sys.stdout, sys.stderr, words.seconds)
     if words.word == "one":
         run_one(words.file, program)
         return int(Status.CLEAN)

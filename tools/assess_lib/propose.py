@@ -14,7 +14,7 @@ from assess_lib.propose_search import Candidate, Search, left_of, total_of
 from assess_lib.propose_text import Spot, spot_of
 from assess_lib.report import Report
 from assess_lib.report_reader import read_report
-from assess_lib.source import SourceText
+from assess_lib.source import SourceText, write_letters
 
 SECTIONS = ("--control", "--compliance")
 LIMIT = 20.0
@@ -140,17 +140,6 @@ def _open(report: Report) -> int:
     return threats - refuted
 
 
-def _write(letters: str, out: TextIO) -> None:
-    """Writes a text byte for byte."""
-    binary = getattr(out, "buffer", None)
-    if binary is None:
-        out.write(letters)
-        return
-    out.flush()
-    binary.write(letters.encode("latin-1"))
-    binary.flush()
-
-
 def _closing(file: str, proposal: Proposal, before: tuple[int, int], after: tuple[int, int], seconds: float) -> str:
     """The last line on standard error."""
     helped = ""
@@ -187,7 +176,7 @@ def propose(file: str, program: Program, out: TextIO, errors: TextIO, limit: flo
         progress.end()
     last = runner.run(proposal.letters.encode("latin-1"))
     report = read_report(last.output)
-    _write(proposal.letters, out)
+    write_letters(proposal.letters, out)
     after = total_of(report) if report is not None else (0, 0)
     for note in proposal.notes:
         print(f"{file}: {note}", file=errors)

@@ -5,6 +5,7 @@ from __future__ import annotations
 import bisect
 import hashlib
 from dataclasses import dataclass
+from typing import TextIO
 
 
 @dataclass(frozen=True, order=True)
@@ -54,3 +55,14 @@ class SourceText:
     def line_text(self, line: int) -> str:
         """What stands in a line that is there, without its end, as an editor shows it."""
         return self._pieces[line - 1].decode("utf-8", "replace").rstrip("\r")
+
+
+def write_letters(letters: str, out: TextIO) -> None:
+    """Writes a text byte for byte."""
+    binary = getattr(out, "buffer", None)
+    if binary is None:
+        out.write(letters)
+        return
+    out.flush()
+    binary.write(letters.encode("latin-1"))
+    binary.flush()

@@ -1,0 +1,3 @@
+pub mod Threatened
+pub mod Listing
+pub mod Answer
