@@ -1,7 +1,8 @@
--- A checked text with calls: each call names an earlier procedure, has an argument for each of its parameters, and for those that are handed
--- back a variable each, none of them twice; and the expansions are checked procedures, whose names have at most 40 bytes.
+-- A checked text with calls: in each procedure the variables stand before the OLD copies of its INOUT variables; each call names an earlier
+-- procedure, has an argument for each of its parameters, and for those that are handed back a variable each, none of them twice; and the
+-- expansions are checked procedures, whose names have at most 40 bytes.
 use Rattle.std.specs.Prelude.{◌≡◌, ◌≢◌, ◌≤◌, ◌<◌, ℕ, Bool, true, false, List, [], ◌∷◌, length, filter, slice_get, Some}
-use Rattle.il_core.specs.Checked.{IsChecked}
+use Rattle.il_core.specs.Checked.{IsChecked, AreInOrder}
 use Rattle.il_core.specs.LineGraph.{IsIn}
 use Rattle.il_core.specs.declared.line.Place.{Place}
 use Rattle.il_core.specs.declared.statement.Mode.{Mode}
@@ -46,6 +47,7 @@ pub record IsCalledText (t : WrittenText) : Type 0 where
   pub few_procedures : length t.procs ≤ 64
   pub low_profile : 1 ≤ t.profile
   pub high_profile : t.profile ≤ 2
+  pub in_order : (k : ℕ) (p : WrittenProcedure) → slice_get t.procs k ≡ Some p → AreInOrder p.places
   pub fit : (k : ℕ) (p : WrittenProcedure) → slice_get t.procs k ≡ Some p → CallsFit t.procs k p
   pub checked : (k : ℕ) (callee : Callee) → slice_get (callees_of t.procs) k ≡ Some callee → IsChecked (procedure_in callee.expanded)
   pub names : (k : ℕ) (callee : Callee) (place : Place) → slice_get (callees_of t.procs) k ≡ Some callee → IsIn callee.expanded.places place → length place.name ≤ 40

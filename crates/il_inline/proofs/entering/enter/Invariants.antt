@@ -1,0 +1,16 @@
+use Rattle.std.proofs.Common.{◌≡◌, ◌++◌, drop, map}
+use Rattle.il_core.specs.Procedure.{instruction_of}
+use Rattle.il_called.specs.Called.{passed_of}
+use Rattle.il_called.specs.Expansion.{entered}
+use Rattle.il_inline.specs.Held.{place_under}
+use Rattle.il_inline.specs.Within.{AreWithin}
+use Rattle.il_inline.proofs.entering.enter.Given as goal
+
+-- the lines so far before those of the rest are all
+abbrev pub invariant-loop-variable : goal.invariant-loop-variable
+invariant-loop-variable l =
+    let left = entered l.places (place_under l.under) l.place (drop l.variable-index l.variables) (map passed_of l.rest) in
+    record {
+      made : map instruction_of l.out ++ left ≡ map instruction_of l.initial.out ++ entered l.places (place_under l.under) l.base l.variables (map passed_of l.arguments);
+      within : AreWithin left;
+    }

@@ -1,0 +1,6 @@
+//! Laws of calls expanded in place: what the expansion does with a line leaves its meaning as it is.
+#![tactic(auto)]
+
+mod laws;
+
+pub use laws::{inlined_lines_step_alike, moved_lines_step_alike, renumbered_have_same_value};
