@@ -112,7 +112,7 @@ class Translator:
         """The contract of a procedure and its opening."""
         assigned = ", ".join(f"v_{it}" for it in self.places)
         lines = [f"requires {it};" for it in self.ranges()]
-        lines += [f"requires {self.condition(pre.expression, chr(92) + 'old({})')};"]
+        lines += [f"requires {self.condition(pre.expression, '{}')};"]
         lines += [f"assigns {assigned};", f"ensures {self.condition(self.post, chr(92) + 'old({})')};"]
         self.out += [f"static long v_{it};" for it in self.places]
         self.out += ["/*@ " + "\n  @ ".join(lines) + " */", f"void p_{self.procedures[-1]}(void) {{"]

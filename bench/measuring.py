@@ -1,6 +1,7 @@
 """Runs of commands with their seconds and peak memory, one at a time."""
 
 import os
+import re
 import signal
 import subprocess
 import tempfile
@@ -33,6 +34,14 @@ def wait(pid, end):
     os.killpg(pid, signal.SIGKILL)
     _, status, usage = os.wait4(pid, 0)
     return os.waitstatus_to_exitcode(status), usage, False
+
+
+def instructions(command, text, limit):
+    """How many instructions a command runs, by valgrind's cachegrind, which counts the same on a busy machine; None where it tells none."""
+    counting = ["valgrind", "--tool=cachegrind", "--cache-sim=no", "--cachegrind-out-file=/dev/null", "--log-file=/dev/stderr"]
+    output = measure([*counting, *command], text, limit)[3]
+    found = re.search(r"^==\d+== I +refs: +([0-9,]+)$", output, re.M)
+    return int(found[1].replace(",", "")) if found else None
 
 
 def load():

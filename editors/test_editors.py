@@ -1,18 +1,29 @@
-"""Holds the editors' files against docs/PROFILE.md and the examples: the keywords, the grammar's rules token by token, the problem
-matcher, and, where Vim is here, Vim's colours and its reading of what assess check writes."""
+"""Holds the editors' files against docs/PROFILE.md and the examples: the keywords; the grammar token by token, by Oniguruma where it is
+here; VS Code's manifest, task, problem matchers and indentation, by JavaScript where Node is here; and, where Vim is here, Vim's colours
+and its reading of what assess check writes."""
 import importlib.machinery
 import importlib.util
+import io
+import itertools
 import json
 import os
 import plistlib
 import re
 import shutil
 import subprocess
+import sys
 import tempfile
 import unittest
 
 HERE = os.path.dirname(os.path.abspath(__file__))
 TOP = os.path.dirname(HERE)
+sys.path[:0] = [HERE, os.path.join(TOP, "tools")]
+
+import textmate  # noqa: E402
+from assess_lib.analysis import analyse, read_source  # noqa: E402
+from assess_lib.check import tell  # noqa: E402
+from assess_lib.findings import findings_of  # noqa: E402
+from assess_tests import recorded  # noqa: E402
 
 
 def load_make():
@@ -51,29 +62,6 @@ def tokens(text):
     return found
 
 
-def scopes(text, rules):
-    """The scope of each byte that a TextMate grammar of flat rules gives: at each place the rule that matches first, the earlier one of
-    two; a rule with begin and end goes on to its end."""
-    found, at = [""] * len(text), 0
-    compiled = [(rule, re.compile(rule.get("match") or rule["begin"])) for rule in rules]
-    while at < len(text):
-        tried = [(match.start(), number, match) for number, (_, rule) in enumerate(compiled) for match in [rule.search(text, at)] if match]
-        if not tried:
-            break
-        _, number, match = min(tried, key=lambda it: it[:2])
-        rule, end = rules[number], match.end()
-        if "begin" in rule:
-            closing = re.compile(rule["end"]).search(text, match.end())
-            end = closing.end() if closing else len(text)
-        for place in range(match.start(), end):
-            found[place] = rule.get("name", "")
-        for group, capture in rule.get("captures", {}).items():
-            for place in range(*match.span(int(group))):
-                found[place] = capture["name"]
-        at = max(end, at + 1)
-    return found
-
-
 class Keywords(unittest.TestCase):
     def test_the_list_is_that_of_the_profile(self):
         profile = read(TOP, "docs", "PROFILE.md")
@@ -97,10 +85,10 @@ class Grammar(unittest.TestCase):
 
     def test_each_token_of_the_examples_has_its_scope(self):
         kinds = {word: f"{make.KINDS[kind][0]}.malpas" for word, kind in make.keywords()}
-        for name, text in examples().items():
-            given = scopes(text, self.grammar["patterns"])
+        for (name, text), engine in itertools.product(examples().items(), textmate.engines()):
+            given = textmate.scopes_of(text, self.grammar, engine)
             for at, kind, word in tokens(text):
-                with self.subTest(text=name, byte=at, token=word):
+                with self.subTest(text=name, byte=at, token=word, engine=engine.__name__):
                     has = set(given[at : at + len(word)])
                     self.assertEqual(len(has), 1)
                     scope = has.pop()
@@ -125,35 +113,109 @@ class Grammar(unittest.TestCase):
             ("PROC p1", ["keyword.other.structure"] * 4 + [""] + ["entity.name.function"] * 2),
             ("a#b", ["variable.other", "invalid.illegal", "variable.other"]),
             ("[IF;]IF", ["comment.block"] * 5 + ["keyword.control"] * 2),
+            ("[IF\n;]IF", ["comment.block"] * 6 + ["keyword.control"] * 2),
+            ("[\n\nIF", ["comment.block"] * 5),
         ]
-        for text, wanted in cases:
-            with self.subTest(text=text):
-                self.assertEqual(scopes(text, self.grammar["patterns"]), [it and f"{it}.malpas" for it in wanted])
+        for (text, wanted), engine in itertools.product(cases, textmate.engines()):
+            with self.subTest(text=text, engine=engine.__name__):
+                self.assertEqual(textmate.scopes_of(text, self.grammar, engine), [it and f"{it}.malpas" for it in wanted])
+
+
+def javascript(text, *given):
+    """Runs a text of JavaScript, the language of VS Code's problem matchers and language configuration, with a value, and returns another."""
+    ran = subprocess.run(["node", "-e", text], input=json.dumps(given), capture_output=True, text=True, timeout=60, check=False)
+    if ran.returncode:
+        raise ValueError(ran.stderr)
+    return json.loads(ran.stdout)
+
+
+READ = """const [expressions, lines] = JSON.parse(require("fs").readFileSync(0));
+const made = expressions.map((it) => new RegExp(it));
+console.log(JSON.stringify(lines.map((line) => made.map((it) => it.exec(line)))));"""
+
+
+def read_lines(expressions, lines):
+    """For each line and each expression the match with its groups, or None, by JavaScript where it is here, else by Python."""
+    if shutil.which("node"):
+        return javascript(READ, expressions, lines)
+    matches = [[re.search(it, line) for it in expressions] for line in lines]
+    return [[it and [it[0], *it.groups()] for it in line] for line in matches]
 
 
 class Code(unittest.TestCase):
+    """The folder for VS Code."""
+
     def setUp(self):
-        self.package = json.loads(read(HERE, "vscode", "package.json"))["contributes"]
+        self.manifest = json.loads(read(HERE, "vscode", "package.json"))
+        self.package = self.manifest["contributes"]
+        self.patterns = {f"${it['name']}": it for it in self.package["problemPatterns"]}
+        self.matchers = {f"${it['name']}": it for it in self.package["problemMatchers"]}
+
+    def read_messages(self, lines):
+        """What the matchers read of each line: severity, file, line, column, code and message."""
+        patterns = [self.patterns[it["pattern"]] for it in self.matchers.values()]
+        told = []
+        for matches in read_lines([it["regexp"] for it in patterns], lines):
+            found = zip(self.matchers.values(), patterns, matches)
+            parts = ("file", "line", "column", "code", "message")
+            told.append([(matcher["severity"], *(match[pattern[it]] if it in pattern else None for it in parts)) for matcher, pattern, match in found if match])
+        return told
+
+    def test_the_manifest_has_what_the_editor_asks_for(self):
+        """The fields that VS Code refuses an extension without, and names that belong together."""
+        for field in ("name", "publisher"):
+            self.assertRegex(self.manifest[field], "^[a-z0-9][a-z0-9-]*$")
+        self.assertRegex(self.manifest["version"], r"^\d+\.\d+\.\d+$")
+        self.assertRegex(self.manifest["engines"]["vscode"], r"^\^\d+\.\d+\.\d+$")
+        (language,), (grammar,) = self.package["languages"], self.package["grammars"]
+        self.assertEqual(grammar["language"], language["id"])
+        self.assertEqual(grammar["scopeName"], make.grammar()["scopeName"])
+        self.assertEqual([it.lstrip(".") for it in language["extensions"]], make.grammar()["fileTypes"])
 
     def test_the_package_names_files_that_are_there(self):
         paths = [it["configuration"] for it in self.package["languages"]] + [it["path"] for it in self.package["grammars"]]
         for path in paths:
             with self.subTest(path=path):
                 json.loads(read(HERE, "vscode", path))
-        json.loads(read(HERE, "vscode", "tasks.json"))
+
+    def test_the_matchers_are_those_of_the_task(self):
+        for matcher in self.matchers.values():
+            self.assertIn(matcher["pattern"], self.patterns)
+            self.assertIn(matcher["severity"], ("error", "warning", "info"))
+            self.assertEqual(matcher["fileLocation"], ["autoDetect", "${workspaceFolder}"])
+        self.assertEqual(len({it["owner"] for it in self.matchers.values()}), len(self.matchers))
+        tasks = json.loads(read(HERE, "vscode", "tasks.json"))
+        self.assertEqual(tasks["version"], "2.0.0")
+        (task,) = tasks["tasks"]
+        self.assertEqual((task["command"], task["args"]), ("assess", ["check", "${file}"]))
+        self.assertEqual(set(task["problemMatcher"]), set(self.matchers))
 
     def test_the_problem_matchers_read_what_assess_check_writes(self):
-        patterns = {f"${it['name']}": it for it in self.package["problemPatterns"]}
-        for line, wanted in MESSAGES:
-            with self.subTest(line=line):
-                found = []
-                for matcher in self.package["problemMatchers"]:
-                    pattern = patterns[matcher["pattern"]]
-                    match = re.match(pattern["regexp"], line)
-                    if match:
-                        parts = [match[pattern[it]] if it in pattern else None for it in ("file", "line", "column", "code", "message")]
-                        found.append((matcher["severity"], *parts))
-                self.assertEqual(found, [wanted] if wanted else [])
+        found = self.read_messages([line for line, _ in MESSAGES])
+        self.assertEqual(found, [[wanted] if wanted else [] for _, wanted in MESSAGES])
+
+    def test_the_problem_matchers_read_all_lines_of_assess_check(self):
+        """On every text of the tool's tests: one problem for each fault and finding, at its place, and none for any other line."""
+        for path in recorded.TEXTS:
+            out = io.StringIO()
+            found = analyse(path.name, read_source(str(path)), recorded.Recorded())
+            tell(found, out, out)
+            wanted = [("error", it.position, it.refusal.code) for it in (found.faults.told if found.faults else [])]
+            wanted += [("warning", it.position, None) for each in found.procedures for it in findings_of(each)]
+            wanted = [(severity, path.name, str(at.line), str(at.column), code) for severity, at, code in wanted]
+            with self.subTest(text=path.name):
+                told = self.read_messages(out.getvalue().splitlines())
+                self.assertEqual([it[:5] for line in told for it in line], wanted)
+                self.assertLessEqual({len(line) for line in told}, {0, 1})
+
+    def test_words_and_indentation(self):
+        settings = json.loads(read(HERE, "vscode", "language-configuration.json"))
+        rules = settings["indentationRules"]
+        lines = ["IF a = 1;", "  ELSE;", "LOOP;", "ENDIF;", "\tENDLOOP;", "IFx := 1;", "x := LOOPS;"]
+        found = read_lines([rules["increaseIndentPattern"], rules["decreaseIndentPattern"]], lines)
+        wanted = [(1, 0), (1, 1), (1, 0), (0, 1), (0, 1), (0, 0), (0, 0)]
+        self.assertEqual([tuple(int(it is not None) for it in line) for line in found], wanted)
+        self.assertEqual(read_lines([settings["wordPattern"]], ["12ab_3 x"]), [[["ab_3"]]])
 
 
 # Lines as assess check writes them, with the severity, file, line, column, code and message that an editor is to read.
