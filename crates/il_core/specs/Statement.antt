@@ -1,5 +1,5 @@
 -- A statement without the pointers of its expressions, so that two equal statements are one.
-use Rattle.std.specs.Prelude.{ℕ, ℤ, List}
+use Rattle.std.specs.Prelude.{ℕ, ℤ, List, map}
 use Rattle.il_core.specs.Tree.{Tree, tree_of}
 use Rattle.il_core.specs.declared.statement.Mode.{Mode}
 use Rattle.il_core.specs.declared.statement.Bound.{Bound}
@@ -28,6 +28,7 @@ pub data Statement : Type 0 where
   exit_when : Tree → Statement
   label : List ℕ → Statement
   goto : List ℕ → Statement
+  call : List ℕ → List Tree → Statement
   skip : Statement
   assert : Tree → Statement
   return : Statement
@@ -55,6 +56,7 @@ statement_of f.Exit = exit
 statement_of (f.ExitWhen e) = exit_when (tree_of e)
 statement_of (f.Label name) = label name
 statement_of (f.Goto name) = goto name
+statement_of (f.Call name arguments) = call name (map tree_of arguments)
 statement_of f.Skip = skip
 statement_of (f.Assert e) = assert (tree_of e)
 statement_of f.Return = return

@@ -42,6 +42,8 @@ pub enum Code {
     Wide,
     /// Too many of something.
     TooMany(Many),
+    /// A call that does not fit the procedure that it calls.
+    BadCall,
     /// A line that cannot stand where it does in a certificate, or a line that is missing.
     BadCertificate,
 }

@@ -104,6 +104,8 @@ pub enum Form {
     Label(Name),
     /// `GOTO name`
     Goto(Name),
+    /// `CALL name`, or `CALL name ( expression, expression )` with at least one argument
+    Call(Name, List<RawExpr>),
     /// `SKIP`
     Skip,
     /// `ASSERT expression`

@@ -4,7 +4,7 @@ use Rattle.std.specs.List.{concat}
 use Rattle.il_core.specs.declared.refusal.Many.{Many}
 use Rattle.il_core.specs.declared.refusal.Many.TheVariants.{Procedures, Lines, Places}
 use Rattle.il_core.specs.declared.refusal.Code.{Code}
-use Rattle.il_core.specs.declared.refusal.Code.TheVariants.{TooLong, NotAscii, Lexical, Number, Syntax, Order, Unmatched, Twice, Unknown, Typing, Access, EmptyRange, Wide, TooMany, BadCertificate}
+use Rattle.il_core.specs.declared.refusal.Code.TheVariants.{TooLong, NotAscii, Lexical, Number, Syntax, Order, Unmatched, Twice, Unknown, Typing, Access, EmptyRange, Wide, TooMany, BadCall, BadCertificate}
 use Rattle.il_core.specs.declared.refusal.Refusal.{Refusal}
 
 -- the number of a code, in two digits
@@ -23,6 +23,7 @@ code_number Access = codes "11"
 code_number EmptyRange = codes "12"
 code_number Wide = codes "13"
 code_number (TooMany many) = codes "14"
+code_number BadCall = codes "16"
 code_number BadCertificate = codes "17"
 
 abbrev pub many_words : Many → List ℕ
@@ -46,6 +47,7 @@ code_words Access = codes "wrong mode"
 code_words EmptyRange = codes "range is empty"
 code_words Wide = codes "expression too wide"
 code_words (TooMany many) = many_words many
+code_words BadCall = codes "call does not fit"
 code_words BadCertificate = codes "certificate has no form"
 
 -- a name that is told

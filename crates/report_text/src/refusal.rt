@@ -27,6 +27,7 @@ fn number_of(code: &Code) -> &[u8]
         Code::EmptyRange => b"12",
         Code::Wide => b"13",
         Code::TooMany(_) => b"14",
+        Code::BadCall => b"16",
         Code::BadCertificate => b"17",
     }
 }
@@ -59,6 +60,7 @@ fn words_of(code: &Code) -> &[u8]
         Code::EmptyRange => b"range is empty",
         Code::Wide => b"expression too wide",
         Code::TooMany(many) => words_of_many(many),
+        Code::BadCall => b"call does not fit",
         Code::BadCertificate => b"certificate has no form",
     }
 }
