@@ -81,6 +81,7 @@ fn put_form(out: &mut String, form: &Form) -> Result<(), AllocError> {
         Form::ExitWhen(_) => out.push_str("exit when"),
         Form::Label(_) => out.push_str("label"),
         Form::Goto(_) => out.push_str("goto"),
+        Form::Call(_, _) => out.push_str("call"),
         Form::Skip => out.push_str("skip"),
         Form::Assert(_) => out.push_str("assert"),
         Form::Return => out.push_str("return"),

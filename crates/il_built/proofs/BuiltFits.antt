@@ -131,6 +131,7 @@ given_in s places r name spot st.exit h a k t = none_some k t
 given_in s places r name spot (st.exit_when tree) h a k t = none_some k t
 given_in s places r name spot (st.label called) h a k t = none_some k t
 given_in s places r name spot (st.goto called) h a k t = none_some k t
+given_in s places r name spot (st.call called arguments) h a k t = none_some k t
 given_in s places r name spot st.skip h a k t = none_some k t
 given_in s places r name spot (st.assert tree) h a k t = none_some k t
 given_in s places r name spot st.return h a k t = none_some k t

@@ -5,7 +5,7 @@ use Rattle.il_core.specs.Checked.{IsSoundCondition, FitsAt}
 use Rattle.il_core.specs.Expression.{Expression}
 use Rattle.il_core.specs.Procedure.{Instruction}
 use Rattle.il_core.specs.Procedure as line
-use Rattle.il_core.specs.Statement.{Statement, Placed, pre, post, assign, if_true, otherwise, end_if, loop, end_loop, exit, exit_when, label, goto, skip, assert, return, end_procedure}
+use Rattle.il_core.specs.Statement.{Statement, Placed, pre, post, assign, if_true, otherwise, end_if, loop, end_loop, exit, exit_when, label, goto, call, skip, assert, return, end_procedure}
 use Rattle.il_core.specs.Tree.{Tree}
 use Rattle.il_core.specs.declared.line.Place.{Place}
 use Rattle.il_core.specs.declared.statement.Link.{Link}
@@ -106,6 +106,7 @@ line_fits stmts links k z x count s i o ls a e long l g = by s.says refl g
     by (goto name) says h =
         let t = target (goto name) says refl in
         put (line.goto (target_at links x)) (goes_to stmts k z x t.0 count (target_at links x) s name o e long l (ap label_of says) t.1 t.2) h
+    by (call name arguments) says h = put line.skip (more (call name arguments) says refl) h
     by skip says h = put line.skip (more skip says refl) h
     by (assert d) says h = put (line.assert (built (setting_at stmts x) d)) (more (assert d) says refl, sound d (ap condition_in says)) h
     by return says h =

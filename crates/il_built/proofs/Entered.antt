@@ -6,7 +6,7 @@ use Rattle.std.specs.Map.{lookup}
 use Rattle.std.proofs.lemmas.List.{take_all}
 use Rattle.std.proofs.lemmas.List.Sums.{fold_more}
 use Rattle.std.proofs.lemmas.Option.{slice_get-get_or}
-use Rattle.il_core.specs.Statement.{Statement, Placed, title, constant_is, range_type, wrap_type, enum_type, procedure, variable, pre, post, assign, if_true, otherwise, end_if, loop, end_loop, exit, exit_when, label, goto, skip, assert, return, end_procedure, finish}
+use Rattle.il_core.specs.Statement.{Statement, Placed, title, constant_is, range_type, wrap_type, enum_type, procedure, variable, pre, post, assign, if_true, otherwise, end_if, loop, end_loop, exit, exit_when, label, goto, call, skip, assert, return, end_procedure, finish}
 use Rattle.il_core.specs.declared.statement.Mode.{Mode}
 use Rattle.il_core.specs.declared.statement.TypeUse.{TypeUse}
 use Rattle.il_types.specs.declared.counts.Counts.{Counts}
@@ -66,6 +66,7 @@ one_further c exit = refl
 one_further c (exit_when e) = refl
 one_further c (label name) = refl
 one_further c (goto name) = refl
+one_further c (call name arguments) = refl
 one_further c skip = refl
 one_further c (assert e) = refl
 one_further c return = refl

@@ -7,7 +7,7 @@ use Rattle.il_core.specs.Checked.{NamedText, old_copy, is_copied}
 use Rattle.il_core.specs.Expression.{Expression, truth}
 use Rattle.il_core.specs.Procedure.{Procedure, Instruction}
 use Rattle.il_core.specs.Procedure as line
-use Rattle.il_core.specs.Statement.{Statement, Placed, title, wrap_type, procedure, variable, pre, post, assign, if_true, otherwise, end_if, loop, end_loop, exit, exit_when, label, goto, skip, assert, return, end_procedure}
+use Rattle.il_core.specs.Statement.{Statement, Placed, title, wrap_type, procedure, variable, pre, post, assign, if_true, otherwise, end_if, loop, end_loop, exit, exit_when, label, goto, call, skip, assert, return, end_procedure}
 use Rattle.il_core.specs.Text.{TextProcedure, Text, text_of}
 use Rattle.il_core.specs.declared.line.Place.{Place}
 use Rattle.il_core.specs.declared.refusal.TextEnd.{TextEnd}
@@ -63,7 +63,8 @@ target_of NoLine = 0
 target_of (Plain own) = 0
 target_of (Jump own target) = target
 
--- the line that a statement is, with the condition of the POST of its procedure and the line to which it may jump
+-- the line that a statement is, with the condition of the POST of its procedure and the line to which it may jump; a call, which
+-- no text has yet, counts as a SKIP
 abbrev pub instructions : Setting → Expression → ℕ → Statement → List Instruction
 instructions s condition target (pre e) = line.pre (built s e) ∷ []
 instructions s condition target (assign name e) = line.assign (assigned_place s name) (built s e) ∷ []
@@ -76,6 +77,7 @@ instructions s condition target exit = line.exit target ∷ []
 instructions s condition target (exit_when e) = line.exit_when (built s e) target ∷ []
 instructions s condition target (label name) = line.label ∷ []
 instructions s condition target (goto name) = line.goto target ∷ []
+instructions s condition target (call _ _) = line.skip ∷ []
 instructions s condition target skip = line.skip ∷ []
 instructions s condition target (assert e) = line.assert (built s e) ∷ []
 instructions s condition target return = line.return target ∷ []

@@ -70,6 +70,7 @@ fn plain_line(target: usize, form: &Form) -> Option<Line>
         Form::Exit => Some(Line::Exit(target)),
         Form::Label(_) => Some(Line::Label),
         Form::Goto(_) => Some(Line::Goto(target)),
+        Form::Call(_, _) => Some(Line::Skip),
         Form::Skip => Some(Line::Skip),
         Form::Return => Some(Line::Return(target)),
         _ => None,

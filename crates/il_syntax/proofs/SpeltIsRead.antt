@@ -3,7 +3,7 @@ use Rattle.std.proofs.Common.{◌≡◌, ℕ, ◌<◌, ◌≤◌, ◌^◌, inl, 
 use Rattle.std.specs.Prelude.{Some, ℤ, pos, neg_ℤ}
 use Rattle.std.specs.Option.{option_map}
 use Rattle.il_core.specs.Tree.{Tree}
-use Rattle.il_core.specs.Statement.{Statement, title, constant_is, range_type, wrap_type, enum_type, procedure, variable, pre, post, assign, if_true, otherwise, end_if, loop, end_loop, exit, exit_when, label, goto, skip, assert, return, end_procedure, finish}
+use Rattle.il_core.specs.Statement.{Statement, title, constant_is, range_type, wrap_type, enum_type, procedure, variable, pre, post, assign, if_true, otherwise, end_if, loop, end_loop, exit, exit_when, label, goto, call, skip, assert, return, end_procedure, finish}
 use Rattle.il_core.specs.declared.statement.Bound.{Bound}
 use Rattle.il_core.specs.declared.statement.Bound.TheVariants as bound
 use Rattle.il_core.specs.declared.statement.Mode.TheVariants as mode
@@ -104,6 +104,7 @@ spelt_reads exit tokens e = rw e refl
 spelt_reads (exit_when tree) tokens (ts, e, h) = rw e (tree, h, refl)
 spelt_reads (label name) tokens e = rw e refl
 spelt_reads (goto name) tokens e = rw e refl
+spelt_reads (call _ _) tokens e = absurd e
 spelt_reads skip tokens e = rw e refl
 spelt_reads (assert tree) tokens (ts, e, h) = rw e (tree, h, refl)
 spelt_reads return tokens e = rw e refl

@@ -1,7 +1,7 @@
 -- The tokens that spell a statement are those of one of its forms and a `;`.
 use Rattle.std.specs.Prelude.{◌≡◌, ℕ, ◌<◌, ◌≤◌, ◌^◌, ℤ, pos, neg_ℤ, ◌⊎◌, List, [], ◌∷◌, ◌++◌}
 use Rattle.std.specs.List.{flat_map}
-use Rattle.il_core.specs.Statement.{Statement, title, constant_is, range_type, wrap_type, enum_type, procedure, variable, pre, post, assign, if_true, otherwise, end_if, loop, end_loop, exit, exit_when, label, goto, skip, assert, return, end_procedure, finish}
+use Rattle.il_core.specs.Statement.{Statement, title, constant_is, range_type, wrap_type, enum_type, procedure, variable, pre, post, assign, if_true, otherwise, end_if, loop, end_loop, exit, exit_when, label, goto, call, skip, assert, return, end_procedure, finish}
 use Rattle.il_core.specs.declared.statement.Bound.{Bound}
 use Rattle.il_core.specs.declared.statement.Bound.TheVariants as bound
 use Rattle.il_core.specs.declared.statement.Mode.{Mode}
@@ -49,7 +49,7 @@ mode_word mode.InOut = k.KwInout
 mode_word mode.Output = k.KwOut
 mode_word mode.Local = k.KwLocal
 
--- these tokens, without the `;`, spell the statement
+-- these tokens, without the `;`, spell the statement; none spell a call yet
 abbrev pub Spells : Statement → List TokenKind → Type 0
 Spells (title name) tokens = tokens ≡ Key k.KwTitle ∷ Ident name ∷ []
 Spells (constant_is name value) tokens = (v : List TokenKind) × (tokens ≡ Key k.KwConst ∷ Ident name ∷ Symbol s.Equal ∷ v) × IsValue v value
@@ -70,6 +70,7 @@ Spells exit tokens = tokens ≡ Key k.KwExit ∷ []
 Spells (exit_when tree) tokens = (e : List TokenKind) × (tokens ≡ Key k.KwExit ∷ Key k.KwWhen ∷ e) × IsExpression e tree
 Spells (label name) tokens = tokens ≡ Key k.KwLabel ∷ Ident name ∷ []
 Spells (goto name) tokens = tokens ≡ Key k.KwGoto ∷ Ident name ∷ []
+Spells (call _ _) tokens = ⊥
 Spells skip tokens = tokens ≡ Key k.KwSkip ∷ []
 Spells (assert tree) tokens = (e : List TokenKind) × (tokens ≡ Key k.KwAssert ∷ e) × IsExpression e tree
 Spells return tokens = tokens ≡ Key k.KwReturn ∷ []

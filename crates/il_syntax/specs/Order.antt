@@ -2,7 +2,7 @@
 -- postcondition and its body up to ENDPROC, and then FINISH, with nothing after it.
 use Rattle.std.specs.Prelude.{◌≡◌, ◌≢◌, ℕ, List, [], ◌∷◌, ◌++◌, Option, Some, None}
 use Rattle.std.specs.Option.{option_and_then}
-use Rattle.il_core.specs.Statement.{Statement, Placed, title, constant_is, range_type, wrap_type, enum_type, procedure, variable, pre, post, assign, if_true, otherwise, end_if, loop, end_loop, exit, exit_when, label, goto, skip, assert, return, end_procedure, finish}
+use Rattle.il_core.specs.Statement.{Statement, Placed, title, constant_is, range_type, wrap_type, enum_type, procedure, variable, pre, post, assign, if_true, otherwise, end_if, loop, end_loop, exit, exit_when, label, goto, call, skip, assert, return, end_procedure, finish}
 use Rattle.il_syntax.specs.declared.order.Part.{Part}
 use Rattle.il_syntax.specs.declared.order.Part.TheVariants as part
 use Rattle.il_syntax.specs.declared.order.Stage.{Stage}
@@ -29,6 +29,7 @@ part_of exit = part.Body
 part_of (exit_when _) = part.Body
 part_of (label _) = part.Body
 part_of (goto _) = part.Body
+part_of (call _ _) = part.Body
 part_of skip = part.Body
 part_of (assert _) = part.Body
 part_of return = part.Body

@@ -6,7 +6,7 @@ use Rattle.std.specs.List.{flat_map, range_with_len}
 use Rattle.std.proofs.lemmas.Option.{slice_get_within, slice_get-get_or}
 use Rattle.il_core.specs.declared.statement.Link.{Link}
 use Rattle.il_core.specs.declared.statement.Link.TheVariants as link
-use Rattle.il_core.specs.Statement.{Statement, Placed, loop, exit_when, assign, end_loop, title, constant_is, range_type, wrap_type, enum_type, procedure, variable, pre, post, if_true, otherwise, end_if, exit, label, goto, skip, assert, return, end_procedure, finish}
+use Rattle.il_core.specs.Statement.{Statement, Placed, loop, exit_when, assign, end_loop, title, constant_is, range_type, wrap_type, enum_type, procedure, variable, pre, post, if_true, otherwise, end_if, exit, label, goto, call, skip, assert, return, end_procedure, finish}
 use Rattle.il_blocks.specs.declared.block.Kind.TheVariants as kind
 use Rattle.il_blocks.specs.Block.{IsUnmatched, closed_by, leaves}
 use Rattle.il_blocks.specs.BlockFault.{HasNoFault}
@@ -164,6 +164,7 @@ link_for ss ends heads m x place exit at e = let l = leaving ss ends heads m x _
 link_for ss ends heads m x place (exit_when _) at e = let l = leaving ss ends heads m x _ at refl in (link.Jump (line ss x) l.0, (refl, l.1))
 link_for ss ends heads m x place (label _) at e = (link.Plain (line ss x), (refl, refl, refl))
 link_for ss ends heads m x place (goto name) at e = absurd (let z : ◌≡◌ {A = Option (List ℕ)} (Some name) None = e in cc)
+link_for ss ends heads m x place (call _ _) at e = (link.Plain (line ss x), (refl, refl, refl))
 link_for ss ends heads m x place skip at e = (link.Plain (line ss x), (refl, refl, refl))
 link_for ss ends heads m x place (assert _) at e = (link.Plain (line ss x), (refl, refl, refl))
 link_for ss ends heads m x place return at e = (link.Jump (line ss x) (end_line (line ss x) (drop x ss)), (refl, refl))
