@@ -3,6 +3,7 @@ pub mod ExpressionRead
 pub mod ExpressionWritten
 pub mod ExpressionExact
 pub mod Enumeration
+pub mod CallArguments
 pub mod SpeltIsRead
 pub mod ReadIsSpelt
 pub mod StatementRead

@@ -39,15 +39,15 @@ minus_token : (t : TokenKind) → is_minus t ≡ true → t ≡ Symbol s.Minus
 minus_token (Symbol s.Minus) e = refl
 minus_token _ e = cc
 
-comma_token : (t : TokenKind) → is_comma t ≡ true → t ≡ Symbol s.Comma
+pub comma_token : (t : TokenKind) → is_comma t ≡ true → t ≡ Symbol s.Comma
 comma_token (Symbol s.Comma) e = refl
 comma_token _ e = cc
 
-left_token : (t : TokenKind) → is_left t ≡ true → t ≡ Symbol s.LeftParen
+pub left_token : (t : TokenKind) → is_left t ≡ true → t ≡ Symbol s.LeftParen
 left_token (Symbol s.LeftParen) e = refl
 left_token _ e = cc
 
-right_token : (t : TokenKind) → is_right t ≡ true → t ≡ Symbol s.RightParen
+pub right_token : (t : TokenKind) → is_right t ≡ true → t ≡ Symbol s.RightParen
 right_token (Symbol s.RightParen) e = refl
 right_token _ e = cc
 

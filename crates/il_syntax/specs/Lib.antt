@@ -5,3 +5,4 @@ pub mod Parse
 pub mod ExpressionReading
 pub mod FormReading
 pub mod StatementReading
+pub mod Arguments

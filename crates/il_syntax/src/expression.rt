@@ -8,7 +8,7 @@ use std::alloc::Global;
 
 /// Why tokens gave no expression.
 #[derive(Clone, Copy, PartialEq, Eq)]
-pub(crate) enum ExpressionEnd {
+pub enum ExpressionEnd {
     /// They are no expression.
     NoForm,
     /// Memory ran out.

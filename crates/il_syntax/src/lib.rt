@@ -5,6 +5,7 @@
 
 mod expression;
 mod form;
+mod form_call;
 mod form_declaration;
 mod form_enumeration;
 mod form_range;
@@ -13,5 +14,7 @@ mod order;
 mod parsing;
 mod statement;
 
+pub use expression::ExpressionEnd;
+pub use form_call::arguments_of_call;
 pub use order::{Part, Stage};
 pub use parsing::{one_parse, parse};
