@@ -1,0 +1,7 @@
+pub mod DecidedTokens
+pub mod DecidedStatements
+pub mod DecidedBlocks
+pub mod DecidedRules
+pub mod DecidedTexts
+pub mod Posted
+pub mod NoDefault
