@@ -20,7 +20,7 @@ use Rattle.il_core.specs.declared.statement.TypeUse.{TypeUse}
 use Rattle.il_core.specs.declared.statement.TypeUse.TheVariants as use_
 use Rattle.il_core.specs.declared.token.Token.{Token}
 use Rattle.il_syntax.specs.Form.{Spells}
-use Rattle.il_syntax.specs.Order.{IsInOrder}
+use Rattle.il_syntax.specs.Order.{IsInOrder, part_of}
 use Rattle.il_syntax.specs.Parse.{AreStatements, pieces}
 use Rattle.il_blocks.specs.BlockLink.{has_line, names_line, IsLink, AreLinks}
 use Rattle.il_types.specs.declared.kind.Kind.{Kind}
@@ -31,18 +31,20 @@ use Rattle.il_types.specs.declared.range.Range.{Range}
 use Rattle.il_types.specs.declared.rules.Rule.TheVariants as rule
 use Rattle.il_types.specs.Built.{plain, place_with, range_between, range_in, range_of_use, is_flag, place_of, read, place_number, copy_number, built_value, built_recalled, built}
 use Rattle.il_types.specs.Modes.{mode_in, mode_of, keeps_modes, is_allowed}
-use Rattle.il_types.specs.Names.{Setting, Spot, setting, front_of, in_force, said, declaration}
+use Rattle.il_types.specs.Names.{Setting, Spot, setting, counts_at, front_of, in_force, said, declaration}
 use Rattle.il_types.specs.Rules.{broken, Answers}
 use Rattle.il_types.specs.Typing.{bound_value, type_in, kind_of_use, variable_in, kind_of_variable, value_in, kind_of, kind_if, kind_of_two, is_whole, is_truth, is_equality, are_of_one, are_whole, are_truth, are_comparable, are_bounds, is_type, may_hold, is_typed}
-use Rattle.il_built.specs.CheckedText.{target_of}
-use Rattle.il_built.specs.Holding.{setting_at}
-use Rattle.il_built.proofs.BuiltFits.{kept_unless}
+use Rattle.il_built.specs.CheckedText.{places_of, target_of}
+use Rattle.il_built.specs.Holding.{setting_at, Holds}
+use Rattle.il_built.proofs.BuiltFits.{kept_unless, reads_of}
 use Rattle.il_built.proofs.BuiltRanges.{nowhere_at}
 use Rattle.il_built.proofs.BuiltSorts.{none_some, both_true, one_of, whole_is, truth_is, enumerations_are, recalls_inout}
 use Rattle.il_built.proofs.Entered.{bound, mapped}
+use Rattle.il_built.proofs.PlacesHold.{places_hold}
+use Rattle.il_built.proofs.VariablesFirst.{is_behind, owned, all_before}
 use Rattle.il_built.proofs.WithoutFault.{keeps_rules}
 use Rattle.accept_laws.specs.LookUps.{ends, range_found, numbered, type_found, use_found, flag_found, place_found, number_of, value_of, copy_of, joined, expression_found, target_in}
-use Rattle.accept_laws.specs.NoDefault.{FindsAll, HasFound, IsFound, NoDefaultIsTaken}
+use Rattle.accept_laws.specs.NoDefault.{FindsAll, HasFound, IsFound, AreNumbered, reads, NoDefaultIsTaken}
 use Rattle.accept_laws.proofs.Posted.{title_there}
 use Rattle.accept_laws.proofs.Posted as ended
 
@@ -320,6 +322,24 @@ are_kept tokens stmts h a =
       valued = valued_at (pieces tokens) stmts h;
     }
 
+-- a statement with an expression stands behind the variables of its procedure
+reads_behind : (s : Statement) → reads s ≡ true → is_behind (part_of s) ≡ true
+reads_behind (st.pre _) h = refl
+reads_behind (st.post _) h = refl
+reads_behind (st.assign _ _) h = refl
+reads_behind (st.if_true _) h = refl
+reads_behind (st.exit_when _) h = refl
+reads_behind (st.assert _) h = refl
+reads_behind _ h = absurd (cc)
+
+are_numbered : (stmts : List Placed) (i : ℕ) (x : Placed) → IsInOrder stmts → slice_get stmts i ≡ Some x → reads x.says ≡ true
+    → AreNumbered (setting_at stmts i) (places_of stmts (counts_at stmts i).procedures)
+are_numbered stmts i x o at h =
+    let k = (counts_at stmts i).procedures in
+    let holds = subst (Holds (places_of stmts k) stmts k) (all_before stmts i x o at (reads_behind x.says h)) (places_hold stmts k) in
+    let r = reads_of stmts (places_of stmts k) i (owned stmts o) holds in
+    record { variables = r.variables; copies = r.copies }
+
 pub no_default_is_taken : NoDefaultIsTaken
 no_default_is_taken text t accepted =
     let told = accepted.say in
@@ -327,4 +347,5 @@ no_default_is_taken text t accepted =
     record {
       title = title_there told.stmts told.parsed.1;
       each = λ i x at. finds_all told.stmts told.accepted.links i x told.parsed.1 kept told.accepted.linked at;
+      numbered = λ i x at h. are_numbered told.stmts i x told.parsed.1 at h;
     }
