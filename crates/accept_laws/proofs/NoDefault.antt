@@ -45,8 +45,7 @@ use Rattle.il_built.proofs.VariablesFirst.{is_behind, owned, all_before}
 use Rattle.il_built.proofs.WithoutFault.{keeps_rules}
 use Rattle.accept_laws.specs.LookUps.{ends, range_found, numbered, type_found, use_found, flag_found, place_found, number_of, value_of, copy_of, joined, expression_found, target_in}
 use Rattle.accept_laws.specs.NoDefault.{FindsAll, HasFound, IsFound, AreNumbered, reads, NoDefaultIsTaken}
-use Rattle.accept_laws.proofs.Posted.{title_there}
-use Rattle.accept_laws.proofs.Posted as ended
+use Rattle.accept_laws.proofs.Posted.{title_there, post_there}
 
 -- an enumeration has a value
 abbrev HasValues : Statement → Type 0
@@ -293,7 +292,7 @@ finds_all stmts links i x o k a at = by x.says refl (k.typed i x at) (k.allowed 
     by (st.goto name) says t m = jump (st.goto name) says refl
     by (st.assert tree) says t m = condition_there (setting_at stmts i) part.Assertion tree m t
     by st.return says t m = jump st.return says refl
-    by st.end_procedure says t m = ended.condition_there stmts o i x at says
+    by st.end_procedure says t m = post_there stmts o i x at says
     by _ says t m = tt
 
 -- a statement that is spelt has its values

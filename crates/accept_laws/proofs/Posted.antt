@@ -113,9 +113,9 @@ first_there [] e rest = refl
 first_there (x ∷ xs) e rest = refl
 
 -- an ENDPROC has the condition of a POST
-pub condition_there : (stmts : List Placed) → IsInOrder stmts → (i : ℕ) (x : Placed) → slice_get stmts i ≡ Some x → x.says ≡ st.end_procedure
+pub post_there : (stmts : List Placed) → IsInOrder stmts → (i : ℕ) (x : Placed) → slice_get stmts i ≡ Some x → x.says ≡ st.end_procedure
     → condition_found stmts (counts_at stmts i).procedures ≡ Some (post_of stmts (counts_at stmts i).procedures)
-condition_there stmts o i x there says = shown (post_before stmts o i x there says)
+post_there stmts o i x there says = shown (post_before stmts o i x there says)
   where
     shown : HasPost stmts i → condition_found stmts (counts_at stmts i).procedures ≡ Some (post_of stmts (counts_at stmts i).procedures)
     shown p =
