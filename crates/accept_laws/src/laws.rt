@@ -7,8 +7,9 @@ pub fn decided()
 {}
 
 /// In an accepted text the checked text takes no default: in each statement each end of a range, each type, each variable
-/// that is assigned, each name of an expression and each line to which it may jump is found by look-ups that have no
-/// default, and is what the checked text has in its place. This law costs nothing.
+/// that is assigned, each name of an expression, each line to which it may jump and the POST of the procedure that it ends
+/// is found by look-ups that have no default, and is what the checked text has in its place; so is the TITLE. The number of
+/// a variable, and of an OLD copy, is that of its own place. This law costs nothing.
 pub fn no_default_is_taken()
     ensures { NoDefaultIsTaken }
 {}
