@@ -3,13 +3,19 @@
 from __future__ import annotations
 
 from model.checking import check
+from model.expanding import expanded
 from model.lexing import tokens_of
 from model.ordering import arrange
 from model.parsing import statements_of
 from model.program import CheckedText
 
 
-def accept(text: bytes) -> CheckedText:
-    """The checked text."""
-    statements = statements_of(tokens_of(text))
+def written(text: bytes, calls: bool = False) -> CheckedText:
+    """The checked text as it is written; where calls are asked for, lines of it may be calls, and else CALL has no form."""
+    statements = statements_of(tokens_of(text), calls)
     return check(statements, arrange(statements, len(text)))
+
+
+def accept(text: bytes, calls: bool = False) -> CheckedText:
+    """The checked text with its calls expanded."""
+    return expanded(written(text, calls))

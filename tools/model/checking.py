@@ -5,15 +5,13 @@ from __future__ import annotations
 from dataclasses import dataclass, field
 from typing import Iterator
 
+from model.calling import RETURNED, Calls, calls_of, check_fit, check_sizes, first_brought
 from model.ordering import Procedure
 from model.parsing import MODES, RELATIONS, Raw, Statement, TypeUse
 from model.program import WHOLE, CheckedProcedure, CheckedText, Expression, Line, Place, bounds_of
 from model.refusal import Refused
 
 WIDEST = 2**126
-MOST_PROCEDURES = 64
-MOST_LINES = 1000
-MOST_PLACES = 64
 
 
 class WrongType(Exception):
@@ -70,8 +68,8 @@ def declare_shared(names: Names, statement: Statement, order: int) -> None:
         names.shared[name] = Declared(kind if number == 0 else "value", order, statement, number - 1)
 
 
-def declare(statements: list[Statement]) -> Names:
-    """All names of a text, or the first that is declared twice."""
+def declare(statements: list[Statement], calls: Calls) -> Names:
+    """All names of a text, or the first that is declared twice, also by a call that brings the name of a variable."""
     names = Names()
     current = -1
     for order, statement in enumerate(statements):
@@ -84,6 +82,10 @@ def declare(statements: list[Statement]) -> Names:
             if statement.name in own or statement.name in names.shared:
                 raise Refused("E08", statement.place, statement.name)
             own[statement.name] = Declared("variable", order, statement, place=len(own))
+        elif statement.form == "CALL":
+            clash = first_brought(calls.sites[order], set(names.variables[current]))
+            if clash is not None:
+                raise Refused("E08", statement.place, clash)
         else:
             declare_shared(names, statement, order)
     return names
@@ -101,13 +103,14 @@ def names_in(raw: Raw | None) -> Iterator[str]:
 
 def names_used(statement: Statement) -> Iterator[str]:
     """The names that a statement uses and does not declare, in the order of their bytes."""
-    if statement.form == "ASSIGN":
+    if statement.form in ("ASSIGN", "CALL"):
         yield statement.name
     if statement.type_use is not None:
         if statement.type_use.kind == "named":
             yield statement.type_use.name
         yield from (bound.name for bound in statement.type_use.bounds if bound.name is not None)
-    yield from names_in(statement.expression)
+    for expression in statement.expressions():
+        yield from names_in(expression)
 
 
 class Checker:
@@ -115,7 +118,8 @@ class Checker:
 
     def __init__(self, statements: list[Statement]) -> None:
         self.statements = statements
-        self.names = declare(statements)
+        self.calls = calls_of(statements)
+        self.names = declare(statements, self.calls)
 
     def check_known(self) -> None:
         """Refuses the first name without a declaration in force."""
@@ -177,8 +181,27 @@ class Checker:
             raise WrongType
         return given
 
+    def parameters(self, name: str, order: int) -> list[Declared]:
+        """The parameters of the procedure of this name."""
+        variables = self.names.variables[self.expect(name, order, "procedure").order].values()
+        return [variable for variable in variables if variable.statement.form != "LOCAL"]
+
+    def check_arguments(self, statement: Statement, order: int) -> None:
+        """The types of a call: each argument is assigned to its parameter, and what is handed back to a variable alone."""
+        parameters = self.parameters(statement.name, order)
+        for number, argument in enumerate(statement.arguments):
+            given = self.type_of(argument, order)
+            if number >= len(parameters):
+                continue
+            if given != self.type_of_variable(parameters[number]):
+                raise WrongType
+            if parameters[number].statement.form in RETURNED and argument.kind == "name":
+                self.expect(argument.text, order, "variable")
+
     def check_type(self, statement: Statement, order: int) -> None:
         """The types of one statement."""
+        if statement.form == "CALL":
+            self.check_arguments(statement, order)
         if statement.type_use is not None:
             self.type_of_use(statement.type_use, order)
         if statement.expression is None:
@@ -202,12 +225,21 @@ class Checker:
         found = self.names.find(name, order)
         return found.statement.form if found is not None and found.kind == "variable" else ""
 
+    def assigned(self, statement: Statement, order: int) -> list[str]:
+        """The names that a statement assigns: the target, or in a call the arguments to which a parameter is handed back."""
+        if statement.form == "ASSIGN":
+            return [statement.name]
+        if statement.form != "CALL":
+            return []
+        pairs = zip(self.parameters(statement.name, order), statement.arguments)
+        return [raw.text for found, raw in pairs if found.statement.form in RETURNED and raw.kind == "name"]
+
     def wrong_mode(self, statement: Statement, order: int) -> bool:
         """Whether a statement uses a variable against its mode."""
-        if statement.form == "ASSIGN" and self.mode(statement.name, order) == "IN":
+        if any(self.mode(name, order) == "IN" for name in self.assigned(statement, order)):
             return True
         forbidden = {"PRE": ("OUT", "LOCAL"), "POST": ("LOCAL",)}.get(statement.form, ())
-        for raw in leaves(statement.expression):
+        for raw in (leaf for expression in statement.expressions() for leaf in leaves(expression)):
             mode = self.mode(raw.text, order)
             if mode in forbidden:
                 return True
@@ -332,45 +364,30 @@ def build_procedure(checker: Checker, procedure: Procedure, order: int) -> Check
     """The checked procedure, whose PROC statement is of this order."""
     places = checker.places_of(procedure, order)
     builder = Builder(checker, places, order + 1)
-    built: dict[int, Expression] = {}
+    built: dict[int, list[Expression]] = {}
     assert procedure.post is not None
     statements = [procedure.lines[0], procedure.post, *procedure.lines[1:]]
     for statement in statements:
-        if statement.expression is None:
-            continue
         try:
-            built[id(statement)] = builder.build(statement.expression)
+            built[id(statement)] = [builder.build(expression) for expression in statement.expressions()]
         except TooWide:
             raise Refused("E13", statement.place) from None
     lines = []
     numbers = {place.name: number for number, place in enumerate(places) if not place.old}
     for statement, target in zip(procedure.lines, procedure.targets):
         source = procedure.post if statement.form == "ENDPROC" else statement
+        if statement.form == "CALL":
+            callee = checker.calls.shapes[checker.expect(statement.name, order + 1, "procedure").order].number
+            lines.append(Line("CALL", callee=callee, arguments=tuple(built[id(statement)])))
+            continue
         place = numbers[statement.name] if statement.form == "ASSIGN" else None
-        lines.append(Line(statement.form, built.get(id(source)), place, target))
+        expression = next(iter(built[id(source)]), None)
+        lines.append(Line(statement.form, expression, place, target))
     return CheckedProcedure(procedure.statement.name, places, lines)
 
 
-def check_sizes(statements: list[Statement]) -> None:
-    """Refuses the first statement with which there are too many procedures, lines or places."""
-    procedures = lines = places = 0
-    for statement in statements:
-        if statement.form == "PROC":
-            procedures, lines, places = procedures + 1, 0, 0
-            if procedures > MOST_PROCEDURES:
-                raise Refused("E14", statement.place, "procedures")
-        elif statement.form in MODES:
-            places += 2 if statement.form == "INOUT" else 1
-            if places > MOST_PLACES:
-                raise Refused("E14", statement.place, "places")
-        elif statement.form not in ("TITLE", "CONST", "TYPE", "ENUMERATION", "POST", "FINISH"):
-            lines += 1
-            if lines > MOST_LINES:
-                raise Refused("E14", statement.place, "lines")
-
-
 def check(statements: list[Statement], procedures: list[Procedure]) -> CheckedText:
-    """The checked text, or its first refusal by names, types, modes, ranges and sizes."""
+    """The checked text as it is written, or its first refusal by names, types, modes, ranges, sizes and calls."""
     checker = Checker(statements)
     checker.check_known()
     checker.check_types()
@@ -378,6 +395,7 @@ def check(statements: list[Statement], procedures: list[Procedure]) -> CheckedTe
     checker.check_ranges()
     orders = [order for order, statement in enumerate(statements) if statement.form == "PROC"]
     built = [build_procedure(checker, procedure, order) for procedure, order in zip(procedures, orders)]
-    check_sizes(statements)
+    check_sizes(statements, checker.calls)
+    check_fit(statements, checker.calls)
     wraps = any(statement.type_use is not None and statement.type_use.wrap for statement in statements)
     return CheckedText(statements[0].name, 2 if wraps else 1, built)

@@ -7,7 +7,7 @@ from dataclasses import dataclass, field
 from model.parsing import MODES, Statement
 from model.refusal import Refused
 
-BODY = frozenset("ASSIGN IF ELSE ENDIF LOOP ENDLOOP EXIT LABEL GOTO SKIP ASSERT RETURN".split()) | {"EXIT WHEN"}
+BODY = frozenset("ASSIGN IF ELSE ENDIF LOOP ENDLOOP EXIT LABEL GOTO SKIP ASSERT RETURN CALL".split()) | {"EXIT WHEN"}
 
 DECLARATIONS = frozenset({"CONST", "TYPE", "ENUMERATION"})
 

@@ -56,6 +56,11 @@ class Statement:
     type_use: TypeUse | None = None
     values: list[str] = field(default_factory=list)
     expression: Raw | None = None
+    arguments: list[Raw] = field(default_factory=list)
+
+    def expressions(self) -> list[Raw]:
+        """The expressions that stand in it, in the order of their bytes."""
+        return [*([] if self.expression is None else [self.expression]), *self.arguments]
 
 
 class Reader:
@@ -163,6 +168,16 @@ class Reader:
         """A whole expression."""
         return self.disjunction()[0]
 
+    def arguments(self) -> list[Raw]:
+        """The expressions between the parentheses of a call, each measured alone; none without parentheses."""
+        if not self.takes("("):
+            return []
+        found = [self.expression()]
+        while self.takes(","):
+            found.append(self.expression())
+        self.take(")")
+        return found
+
     def signed(self) -> int:
         """A number with or without a minus."""
         sign = -1 if self.takes("-") else 1
@@ -226,11 +241,13 @@ def read_declaration(reader: Reader, statement: Statement) -> None:
     elif statement.form in MODES:
         reader.take(":")
         statement.type_use = reader.type_use()
+    elif statement.form == "CALL":
+        statement.arguments = reader.arguments()
 
 
 def read_rest(reader: Reader, statement: Statement) -> None:
     """The rest of a statement after the keyword that is its form."""
-    if statement.form in ("TITLE", "CONST", "TYPE", "PROC", "LABEL", "GOTO", *MODES):
+    if statement.form in ("TITLE", "CONST", "TYPE", "PROC", "LABEL", "GOTO", "CALL", *MODES):
         read_declaration(reader, statement)
     elif statement.form in ("PRE", "POST", "IF", "ASSERT"):
         statement.expression = reader.expression()
@@ -258,14 +275,16 @@ def read_statement(tokens: list[Token]) -> Statement:
     return statement
 
 
-def statements_of(tokens: list[Token]) -> list[Statement]:
-    """All statements, or the first that has no form."""
+def statements_of(tokens: list[Token], calls: bool = False) -> list[Statement]:
+    """All statements, or the first that has no form; CALL has one only where calls are asked for."""
     statements = []
     start = 0
     for index, token in enumerate(tokens):
         if token.kind != ";":
             continue
         try:
+            if tokens[start].kind == "CALL" and not calls:
+                raise NoForm
             statements.append(read_statement(tokens[start : index + 1]))
         except NoForm:
             raise Refused("E05", tokens[start].place) from None

@@ -151,6 +151,7 @@ def procedure_lines(procedure: CheckedProcedure, sections: tuple[str, ...]) -> t
     control = control_of(procedure, graph)
     derivation = derive(graph)
     lines = [f"PROCEDURE {procedure.name} LINES {len(procedure.lines)}"]
+    lines.extend(f"EXPANDED L{span.first} L{span.last} {span.callee}" for span in procedure.spans)
     reducible = control.entries is None
     findings = findings_of(procedure, control) if reducible else []
     names = [place.text() for place in procedure.places]

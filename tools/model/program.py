@@ -2,7 +2,7 @@
 
 from __future__ import annotations
 
-from dataclasses import dataclass
+from dataclasses import dataclass, field
 
 Bounds = tuple[int, int]
 
@@ -43,25 +43,53 @@ class Expression:
 
 @dataclass(frozen=True)
 class Line:
-    """A line: its form, its expression, the place that it assigns, and the line to which it jumps."""
+    """A line: its form, its expression, the place that it assigns, and the line to which it jumps.
+
+    A call has the number of the procedure that it calls and its arguments; those for INOUT and OUT are a place or a flag.
+    """
 
     form: str
     expression: Expression | None = None
     place: int | None = None
     target: int | None = None
+    callee: int | None = None
+    arguments: tuple[Expression, ...] = ()
+
+
+@dataclass(frozen=True)
+class Origin:
+    """The written line from which a line of an expanded procedure comes."""
+
+    procedure: int
+    line: int
+
+
+@dataclass(frozen=True)
+class Span:
+    """The first and the last line that one of a procedure's own calls became, and the name of the procedure called."""
+
+    first: int
+    last: int
+    callee: str
 
 
 @dataclass
 class CheckedProcedure:
-    """A procedure of an accepted text."""
+    """A procedure of an accepted text; where its calls are expanded it also has the origin of each line, and the span of each call."""
 
     name: str
     places: list[Place]
     lines: list[Line]
+    origins: list[Origin] = field(default_factory=list)
+    spans: list[Span] = field(default_factory=list)
 
     def variables(self) -> list[int]:
         """The numbers of the places that are no OLD copies."""
         return [number for number, place in enumerate(self.places) if not place.old]
+
+    def parameters(self) -> list[int]:
+        """The numbers of the IN, INOUT and OUT variables, which a call gives arguments."""
+        return [number for number in self.variables() if self.places[number].mode != "LOCAL"]
 
     def variable_of(self, number: int) -> int:
         """For an OLD copy the number of its variable."""

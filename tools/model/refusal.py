@@ -21,6 +21,7 @@ SENTENCES = {
     "E12": "range is empty",
     "E13": "expression too wide",
     "E14": "too many ",
+    "E16": "call does not fit",
 }
 
 

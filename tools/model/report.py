@@ -1,5 +1,8 @@
 #!/usr/bin/env python3
-"""report.py < TEXT prints what malpas prints for a text, by a second implementation, and ends with the same status."""
+"""report.py < TEXT prints what malpas prints for a text, by a second implementation, and ends with the same status.
+
+With --calls as its first word it takes texts with calls too, which malpas refuses still.
+"""
 
 import sys
 from pathlib import Path

@@ -88,7 +88,44 @@ def unequal(choice: random.Random) -> bytes:
 STRAINS = [many_procedures, many_lines, many_places, deep, many_paths, heavy, deep_terms, large, unequal, unequal]
 
 
-def strained(seed: int) -> bytes:
+def chained(head: list[str], bodies: list[list[str]]) -> bytes:
+    """A text of procedures p0, p1 and so on with the same declarations."""
+    statements = ["TITLE t"]
+    for number, body in enumerate(bodies):
+        statements += [f"PROC p{number}", *head, "PRE TRUE", "POST TRUE", *body, "ENDPROC"]
+    return "".join(f"{statement};\n" for statement in [*statements, "FINISH"]).encode("ascii")
+
+
+def called_lines(choice: random.Random) -> bytes:
+    """Calls that become about as many lines as a procedure may have."""
+    inner, times = choice.choice([(10, 62), (40, 21), (95, 9), (495, 1)])
+    own = 998 - times * (inner + 4)
+    body = ["SKIP"] * (own + choice.choice([-1, 0, 1])) + ["CALL p0 (x)"] * times
+    choice.shuffle(body)
+    return chained(["IN x : 0 .. 3"], [["SKIP"] * (inner + 1), body])
+
+
+def called_places(choice: random.Random) -> bytes:
+    """Calls that bring about as many places as a procedure may have, one procedure upon the other."""
+    head = choice.choice([["INOUT x : 0 .. 3"], ["OUT x : 0 .. 3"], ["IN y : BOOL", "INOUT x : WRAP 0 .. 3"]])
+    arguments = "(x = 1, x)" if len(head) > 1 else "(x)"
+    count = choice.choice([1, 2, 3])
+    return chained(head, [[f"CALL p{number - 1} {arguments}"] * (count if number else 0) for number in range(choice.randrange(3, 7))])
+
+
+def called_names(choice: random.Random) -> bytes:
+    """Calls that make names of about 40 bytes."""
+    length = choice.choice([36, 37, 38])
+    name = "x" * (length - 3 * choice.choice([0, 1]) - choice.choice([0, 0, 1]))
+    calls = choice.choice([1, 1, 9, 10])
+    return chained([f"IN {name} : 0 .. 3"], [[f"CALL p{number - 1} (1)"] * (calls if number else 0) for number in range(3)])
+
+
+CALL_STRAINS = [called_lines, called_places, called_names]
+
+
+def strained(seed: int, calls: bool = False) -> bytes:
     """The text at a limit of a number."""
     choice = random.Random(f"limits {seed}")
-    return STRAINS[seed % len(STRAINS)](choice)
+    strains = CALL_STRAINS if calls else STRAINS
+    return strains[seed % len(strains)](choice)
