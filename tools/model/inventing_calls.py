@@ -31,7 +31,8 @@ class CallInventor(Inventor):
         """An argument for a parameter; None where there is none. A variable that is handed back is free no more."""
         if parameter.mode == "IN":
             if parameter.kind == WHOLE:
-                return self.number(self.choice.choice([0, 1, 1, 2]))
+                divided = f" DIV {self.number(0)}" if self.choice.random() < 0.15 else ""
+                return self.number(self.choice.choice([0, 0, 1, 2])) + divided
             if parameter.kind == FLAG:
                 return self.condition(self.choice.choice([0, 1]))
             return self.choice.choice(self.readable(parameter.kind) + self.enumerations[parameter.kind])
@@ -41,6 +42,12 @@ class CallInventor(Inventor):
         variable = self.choice.choice(fitting)
         free.remove(variable)
         return f"({variable.name})" if self.choice.random() < 0.1 else variable.name
+
+    def condition(self, depth: int) -> str:
+        """A condition; annotations often have the simplest, so that runs come through calls."""
+        if self.place != "body" and self.choice.random() < 0.6:
+            return "TRUE"
+        return super().condition(depth)
 
     def call(self) -> bool:
         """A call, if one can be made within the limits."""

@@ -116,3 +116,13 @@ def turn(text: CheckedText, stack: Stack) -> Turn:
     if len(stack) > 1 and name in ("OUTSIDE", "POST"):
         name = "ASSERT"
     return stack, Halt(name, None if name in ("END", "OUTSIDE", "POST") else Origin(last.procedure, last.line))
+
+
+def run(text: CheckedText, number: int, values: State, limit: int = 1000) -> Turn:
+    """The run of a procedure from some values: how it stands after so many steps, or with its halt before."""
+    stack: Stack = (Frame(number, 0, values),)
+    for _ in range(limit):
+        stack, halt = turn(text, stack)
+        if halt is not None:
+            return stack, halt
+    return stack, None

@@ -16,9 +16,9 @@ from model.ways import Stop
 class Trial:
     """A text with calls, its expansion, and where the lines and places of a stack stand in the latter."""
 
-    def __init__(self, text: CheckedText) -> None:
+    def __init__(self, text: CheckedText, expansion: CheckedText) -> None:
         self.text = text
-        self.expanded = expanded(text)
+        self.expanded = expansion
 
     def width(self, line: Line) -> int:
         """How many lines a written line becomes."""
@@ -125,7 +125,7 @@ def random_state(choice: random.Random, procedure: CheckedProcedure) -> State:
 
 def strays_of(text: CheckedText, name: str, states: int, limit: int = 300) -> list[str]:
     """Where expanded procedures of a text, which has a name, stray from the stack machine, from so many random states each."""
-    trial = Trial(text)
+    trial = Trial(text, expanded(text))
     choice = random.Random(f"states of {name}")
     found = []
     for number, procedure in enumerate(trial.expanded.procedures):

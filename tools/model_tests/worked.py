@@ -200,3 +200,63 @@ INPUTS = [
     ),
 ]
 """Declarations, a body, and its test inputs."""
+
+CALL_INC = b"""TITLE t;
+PROC inc;
+INOUT v : 0 .. 9;
+PRE v <= 8;
+POST v = OLD v + 1;
+v := v + 1;
+ENDPROC;
+PROC p;
+INOUT x : 0 .. 5;
+PRE TRUE;
+POST TRUE;
+CALL inc (x);
+ENDPROC;
+FINISH;
+"""
+
+CALL_INC_PLACES = [("x", "INOUT", 0, 5), ("c1_v", "LOCAL", 0, 9), ("o1_v", "LOCAL", 0, 9), ("OLD x", "INOUT", 0, 5)]
+
+CALL_INC_LINES = [
+    ("PRE", None),
+    ("ASSIGN", 1),
+    ("ASSIGN", 2),
+    ("ASSERT", None),
+    ("ASSIGN", 1),
+    ("ASSERT", None),
+    ("ASSIGN", 0),
+    ("ENDPROC", None),
+]
+"""The lines of p, each with the place that it assigns."""
+
+CALL_INC_ORIGINS = [(1, 0), (1, 1), (1, 1), (0, 0), (0, 1), (0, 2), (1, 1), (1, 2)]
+
+CALL_INC_PARTS = [
+    """PROCEDURE p LINES 8
+EXPANDED L1 L6 inc
+CONTROL
+""",
+    """REGION L0
+THREAT 1 PATH TTTF STOP RANGE L6 SHOWN x = 5, c1_v = 0, o1_v = 0, OLD x = 5
+THREAT 2 PATH TTF STOP ASSERT L5 FALSE
+THREAT 3 PATH TF STOP RANGE L4 FALSE
+THREAT 4 PATH F STOP ASSERT L3 FALSE
+THREATS 4 FALSE 3 SHOWN 1 OPEN 0 PAST 0
+STATUS 1
+""",
+]
+
+CALL_OUTER = b"""TITLE t;
+PROC inc; INOUT v : WRAP 0 .. 9; PRE TRUE; POST TRUE; v := v + 1; ENDPROC;
+PROC outer; IN i : 0 .. 9; INOUT y : 0 .. 9; PRE TRUE; POST TRUE; CALL inc (y); ENDPROC;
+PROC p; INOUT x : 0 .. 9; LOCAL z : 0 .. 9; PRE TRUE; POST TRUE; CALL inc (x); CALL outer (x, z); ENDPROC;
+FINISH;
+"""
+
+CALL_OUTER_PLACES = ["x", "z", "c1_v", "o1_v", "c2_i", "c2_y", "c2_c1_v", "c2_o1_v", "o2_y", "OLD x"]
+
+CALL_TWO_ENTRIES = TWO_ENTRIES.replace(
+    b"FINISH;", b"PROC q;\nINOUT x : 0 .. 9;\nPRE TRUE;\nPOST TRUE;\nCALL p (x);\nENDPROC;\nFINISH;"
+)

@@ -1,0 +1,280 @@
+"""Texts with calls: their refusals, their expansions and reports, and runs of the stack machine beside them."""
+
+from __future__ import annotations
+
+import random
+import unittest
+from dataclasses import replace
+from functools import cache
+from pathlib import Path
+
+from model.accepting import accept, written
+from model.command import answer, deeply, read_words
+from model.comparing import Answer, difference
+from model.exhaustive import faults_of
+from model.expanding import expanded
+from model.inventing_calls import invented_calls
+from model.program import CheckedText, Line, Origin, Span
+from model.refusal import Refused
+from model.slipping import slipped
+from model.stacking import Halt, run
+from model.straining import strained
+from model.straying import Trial, random_state, strays, strays_of
+from model_tests import worked
+from model_tests.call_rows import ROWS
+from model_tests.call_runs import RUNS, Run
+
+TEXTS = Path(__file__).resolve().parent / "texts"
+TRIED = 300
+"""How many random texts are tried."""
+
+
+KINDS = {
+    (1, "OUTSIDE", "PRE"),
+    (1, "RANGE", "CALL"),
+    (1, "DIVZERO", "CALL"),
+    (1, "END", "ENDPROC"),
+    (1, "POST", "ENDPROC"),
+    (2, "ASSERT", "PRE"),
+    (2, "RANGE", "ASSIGN"),
+    (2, "DIVZERO", "ASSIGN"),
+    (2, "ASSERT", "ASSERT"),
+    (2, "ASSERT", "ENDPROC"),
+    (2, "RANGE", "ENDPROC"),
+    (3, "RANGE", "ASSIGN"),
+}
+"""How deep a stack is, at most 3, the halt, and the form of the line at which the last frame stands."""
+
+
+def refusal_of(text: bytes) -> tuple[str, int, str]:
+    """The refusal of a text with calls: its code, its byte, and its name or limit."""
+    try:
+        accept(text, True)
+    except Refused as refused:
+        return refused.code, refused.place, refused.detail
+    return "", 0, ""
+
+
+@cache
+def written_texts() -> list[tuple[str, CheckedText]]:
+    """The random texts with calls that are accepted, as they are written."""
+    found = []
+    for seed in range(TRIED):
+        text = invented_calls(seed)
+        if refusal_of(text)[0] == "":
+            found.append((f"text {seed}", written(text, True)))
+    return found
+
+
+class Refusals(unittest.TestCase):
+    """Which texts with calls are refused."""
+
+    def test_rows(self) -> None:
+        """Each rule refused, and beside it a text that it lets pass."""
+        for row in ROWS:
+            with self.subTest(row.words):
+                self.assertEqual(deeply(refusal_of, row.text.encode("ascii")), (row.code, row.place, row.detail))
+
+    def test_without_calls(self) -> None:
+        """CALL has no form where calls are not asked for, and is no word of the program."""
+        for row in ROWS:
+            if row.code not in ("E05", "E06", "E07") and len(row.text) < 1000 and "CALL " in row.text:
+                place = row.text.index("CALL ")
+                self.assertEqual(answer(row.text.encode("ascii")), (f"malpas: E05 at byte {place}: statement has no form\n", 2))
+        self.assertIsNone(read_words(["--calls"]))
+
+    def test_lines(self) -> None:
+        """The lines that are written for refusals."""
+        called = worked.COPY.replace(b"d := a;", b"CALL q;")
+        self.assertEqual(answer(called, calls=True), ("malpas: E09 at byte 108: name unknown: q\n", 2))
+        for call in (b"CALL p (x);", b"CALL inc;"):
+            text = worked.CALL_INC.replace(b"CALL inc (x);", call)
+            self.assertEqual(answer(text, calls=True), ("malpas: E16 at byte 137: call does not fit\n", 2))
+
+    def test_slips(self) -> None:
+        """Every text with slips, and every text at a limit, has an answer."""
+        met = {refusal_of(slipped(seed, True))[0] for seed in range(400)}
+        self.assertLessEqual({"", "E05", "E08", "E09", "E10", "E11", "E16"}, met)
+        self.assertLessEqual({"", "E14", "E16"}, {refusal_of(strained(seed, True))[0] for seed in range(30)})
+
+
+class Expansions(unittest.TestCase):
+    """What calls become."""
+
+    def test_worked(self) -> None:
+        """The places, lines, origins and spans of a procedure with one call."""
+        found = accept(worked.CALL_INC, True).procedures[1]
+        places = [(place.text(), place.mode, place.least, place.greatest) for place in found.places]
+        self.assertEqual(places, worked.CALL_INC_PLACES)
+        self.assertEqual([(line.form, line.place) for line in found.lines], worked.CALL_INC_LINES)
+        self.assertEqual([(origin.procedure, origin.line) for origin in found.origins], worked.CALL_INC_ORIGINS)
+        self.assertEqual(found.spans, [Span(1, 6, "inc")])
+
+    def test_names(self) -> None:
+        """Places of calls in calls stand call by call, before the OLD copies of the procedure that is called."""
+        found = accept(worked.CALL_OUTER, True).procedures[2]
+        self.assertEqual([place.text() for place in found.places], worked.CALL_OUTER_PLACES)
+        self.assertEqual(found.spans, [Span(1, 6, "inc"), Span(7, 18, "outer")])
+        self.assertEqual([place.wrap for place in found.places if "v" in place.name], [True] * 4)
+
+    def test_own_lines(self) -> None:
+        """A text without calls is its own expansion."""
+        found = accept(worked.SUM, True).procedures[0]
+        self.assertEqual((found.spans, found.origins), ([], [Origin(0, line) for line in range(len(found.lines))]))
+        self.assertEqual(answer(worked.SUM, calls=True), answer(worked.SUM))
+
+    def test_report(self) -> None:
+        """The lines of the calls stand before the sections, and the report is that of the expansion."""
+        output, status = answer(worked.CALL_INC, calls=True)
+        self.assertEqual(status, 1)
+        for part in worked.CALL_INC_PARTS:
+            self.assertIn("\n" + part, output)
+
+    def test_example(self) -> None:
+        """The report of a text with three calls."""
+        text = (TEXTS / "voted_trip.mal").read_bytes()
+        self.assertEqual(answer(text, calls=True), ((TEXTS / "voted_trip.report").read_text("ascii"), 0))
+
+    def test_two_entries(self) -> None:
+        """A loop of a called procedure that is entered at two lines is told in the caller too, and which paths are shown is free."""
+        output, status = answer(worked.CALL_TWO_ENTRIES, calls=True)
+        self.assertIn("\nPROCEDURE q LINES 15\nEXPANDED L1 L13 p\nCONTROL\n", output)
+        self.assertEqual(output.count("SHAPE TWO ENTRIES"), 2)
+        same = Answer(output, status)
+        self.assertIsNone(difference(worked.CALL_TWO_ENTRIES, same, same, set(), True))
+        other = Answer(output.replace("EXPANDED L1 L13", "EXPANDED L1 L12"), status)
+        self.assertIsNotNone(difference(worked.CALL_TWO_ENTRIES, other, same, set(), True))
+
+
+class Runs(unittest.TestCase):
+    """The stack machine, and the expansion beside it."""
+
+    def assert_run(self, one: Run) -> None:
+        """The stack machine halts as it is said, and the expansion runs alike from any values of the places that it brings."""
+        text = written(one.text.encode("ascii"), True)
+        number = len(text.procedures) - 1
+        stack, halt = run(text, number, one.start)
+        self.assertEqual(halt, Halt(one.halt, None if one.at is None else Origin(*one.at)))
+        self.assertEqual(stack[0].values, one.end)
+        trial = Trial(text, expanded(text))
+        for seed in range(3):
+            brought = random_state(random.Random(seed), trial.expanded.procedures[number])[len(one.start) :]
+            self.assertEqual(list(strays(trial, number, one.start + brought, 1000)), [])
+
+    def test_worked(self) -> None:
+        """Faults of each part of a call, what is handed back, and calls in calls."""
+        for one in RUNS:
+            with self.subTest(one.words):
+                self.assert_run(one)
+
+    def test_invented(self) -> None:
+        """The expansions of random texts run as the stack machine does."""
+        called = 0
+        for name, text in written_texts():
+            called += any(line.callee is not None for procedure in text.procedures for line in procedure.lines)
+            with self.subTest(name):
+                self.assertEqual(strays_of(text, name, 5), [])
+        self.assertGreater(called, TRIED // 2)
+
+    def test_kinds(self) -> None:
+        """Runs of the random texts halt in each part of a call, and in calls of calls."""
+        met = set()
+        for name, text in written_texts():
+            for number, procedure in enumerate(text.procedures):
+                for seed in range(5):
+                    stack, halt = run(text, number, random_state(random.Random(f"{name} {seed}"), procedure), 300)
+                    last = stack[-1]
+                    if halt is not None:
+                        form = text.procedures[last.procedure].lines[last.line].form
+                        met.add((min(len(stack), 3), halt.name, form))
+        self.assertLessEqual(KINDS, met)
+
+    def test_every_input(self) -> None:
+        """Every input of small expanded procedures takes one row, and stepping gives its stop and values."""
+        for seed in range(40):
+            with self.subTest(seed):
+                self.assertEqual(faults_of(accept(invented_calls(seed), True), 300), [])
+
+    def test_wrong_expansions(self) -> None:
+        """An expansion with one kind of fault strays from the stack machine."""
+        for change in (without_copies, with_late_origins, with_far_returns, without_back, without_least):
+            with self.subTest(change.__name__):
+                self.assertTrue(any(strays_from(text, change(expanded(text))) for _, text in written_texts()))
+
+
+def strays_from(text: CheckedText, expansion: CheckedText) -> bool:
+    """Whether an expansion strays from the stack machine at one of its procedures with calls."""
+    trial = Trial(text, expansion)
+    choice = random.Random(0)
+    for number, procedure in enumerate(expansion.procedures):
+        for _ in range(5 if procedure.spans else 0):
+            if any(strays(trial, number, random_state(choice, procedure), 300)):
+                return True
+    return False
+
+
+def changed(text: CheckedText, change) -> CheckedText:
+    """An expansion in which each line is changed, by its procedure and number."""
+    procedures = []
+    for procedure in text.procedures:
+        lines = [change(procedure, number) for number in range(len(procedure.lines))]
+        procedures.append(replace(procedure, lines=lines))
+    return CheckedText(text.title, text.profile, procedures)
+
+
+def assigns(procedure, number: int, mark: str) -> bool:
+    """Whether a line assigns a place whose name begins so; LOCAL variables that are brought begin with c or o."""
+    place = procedure.lines[number].place
+    return place is not None and procedure.places[place].name.startswith(mark)
+
+
+def without_copies(text: CheckedText) -> CheckedText:
+    """OLD copies keep what they had before the call."""
+    return changed(text, lambda procedure, n: Line("SKIP") if assigns(procedure, n, "o") else procedure.lines[n])
+
+
+def without_back(text: CheckedText) -> CheckedText:
+    """The last line of a call hands nothing back."""
+
+    def change(procedure, number: int) -> Line:
+        """A line of an expansion."""
+        back = any(span.last == number for span in procedure.spans)
+        return Line("SKIP") if back and procedure.lines[number].form == "ASSIGN" else procedure.lines[number]
+
+    return changed(text, change)
+
+
+def without_least(text: CheckedText) -> CheckedText:
+    """The first line of a call gives no value."""
+
+    def change(procedure, number: int) -> Line:
+        """A line of an expansion."""
+        first = any(span.first == number for span in procedure.spans)
+        return Line("SKIP") if first and procedure.lines[number].form == "ASSIGN" else procedure.lines[number]
+
+    return changed(text, change)
+
+
+def with_far_returns(text: CheckedText) -> CheckedText:
+    """RETURN and GOTO in a called procedure leave the caller."""
+
+    def change(procedure, number: int) -> Line:
+        """A line of an expansion."""
+        inside = any(span.first <= number <= span.last for span in procedure.spans)
+        line = procedure.lines[number]
+        return replace(line, target=len(procedure.lines) - 1) if inside and line.form == "GOTO" else line
+
+    return changed(text, change)
+
+
+def with_late_origins(text: CheckedText) -> CheckedText:
+    """The origins of called lines are one line late."""
+    procedures = []
+    for number, procedure in enumerate(text.procedures):
+        moved = [o if o.procedure == number else Origin(o.procedure, o.line + 1) for o in procedure.origins]
+        procedures.append(replace(procedure, origins=moved))
+    return CheckedText(text.title, text.profile, procedures)
+
+
+if __name__ == "__main__":
+    unittest.main()
