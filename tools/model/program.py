@@ -75,7 +75,7 @@ class Span:
 
 @dataclass
 class CheckedProcedure:
-    """A procedure of an accepted text; where its calls are expanded it also has the origin of each line, and the span of each call."""
+    """A procedure of an accepted text; expanded, it also has the origin of each line and the span of each call."""
 
     name: str
     places: list[Place]

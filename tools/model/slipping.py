@@ -17,9 +17,12 @@ STRAY += ["x0 := 1", "x0 := TRUE", "x1 := x0", "x9 := 0", "ASSERT x0", "ASSERT O
 STRAY += ["CONST k0 = 1", "TYPE t0 = 3 .. 1", "IN x0 : BOOL", "LOCAL x7 : t0", "OUT x8 : k0", "INOUT x9 : e0", "PROC p0", "ENDPROC"]
 STRAY += ["x0 := 9223372036854775807 * 9223372036854775807 * x0", "ASSERT (x0 = x1) = TRUE", "LOCAL x6 : k1 .. k0", "FINISH"]
 
-STRAY_CALLS = ["CALL p0", "CALL p1", "CALL p2", "CALL p0 (x0)", "CALL p1 (x0)", "CALL p0 (x0, x1)", "CALL p1 (x1, x0)", "CALL p0 ()"]
-STRAY_CALLS += ["CALL p0 (x0, x0)", "CALL p0 (1, x0, TRUE)", "CALL p1 (OLD x0)", "CALL k0", "CALL x0 (x0)", "CALL (x0)", "CALL p0 (x0, )"]
-STRAY_NAMES = ["LOCAL c1_x0 : 0 .. 1", "LOCAL o1_x0 : 0 .. 1", "LOCAL c2_x1 : BOOL", "OUT c1_c1_x0 : 0 .. 1", "IN c1_o1_x0 : 0 .. 1"]
+STRAY_CALLS = ["CALL p0", "CALL p1", "CALL p2", "CALL p0 (x0)", "CALL p1 (x0)", "CALL p0 (x0, x1)", "CALL p1 (x1, x0)"]
+STRAY_CALLS += ["CALL p0 (x0, x0)", "CALL p0 (1, x0, TRUE)", "CALL p1 (OLD x0)", "CALL k0", "CALL x0 (x0)", "CALL (x0)"]
+STRAY_CALLS += ["CALL p0 ()", "CALL p0 (x0, )"]
+
+STRAY_NAMES = ["LOCAL c1_x0 : 0 .. 1", "LOCAL o1_x0 : 0 .. 1", "LOCAL c2_x1 : BOOL", "OUT c1_c1_x0 : 0 .. 1"]
+STRAY_NAMES += ["IN c1_o1_x0 : 0 .. 1"]
 
 CALL = re.compile(rb"CALL (\w+)(?: \((.*)\))?;")
 

@@ -110,7 +110,8 @@ def called_places(choice: random.Random) -> bytes:
     head = choice.choice([["INOUT x : 0 .. 3"], ["OUT x : 0 .. 3"], ["IN y : BOOL", "INOUT x : WRAP 0 .. 3"]])
     arguments = "(x = 1, x)" if len(head) > 1 else "(x)"
     count = choice.choice([1, 2, 3])
-    return chained(head, [[f"CALL p{number - 1} {arguments}"] * (count if number else 0) for number in range(choice.randrange(3, 7))])
+    bodies = [[f"CALL p{number - 1} {arguments}"] * (count if number else 0) for number in range(choice.randrange(3, 7))]
+    return chained(head, bodies)
 
 
 def called_names(choice: random.Random) -> bytes:

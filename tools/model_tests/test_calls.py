@@ -4,22 +4,27 @@ from __future__ import annotations
 
 import random
 import unittest
-from dataclasses import replace
+from dataclasses import dataclass, replace
 from functools import cache
 from pathlib import Path
 
 from model.accepting import accept, written
+from model.calling import calls_of, check_fit, check_sizes
 from model.command import answer, deeply, read_words
 from model.comparing import Answer, difference
 from model.exhaustive import faults_of
 from model.expanding import expanded
 from model.inventing_calls import invented_calls
-from model.program import CheckedText, Line, Origin, Span
+from model.lexing import tokens_of
+from model.ordering import BODY
+from model.parsing import statements_of
+from model.program import CheckedProcedure, CheckedText, Line, Origin, Span
 from model.refusal import Refused
 from model.slipping import slipped
 from model.stacking import Halt, run
 from model.straining import strained
 from model.straying import Trial, random_state, strays, strays_of
+from model.usage import places_in
 from model_tests import worked
 from model_tests.call_rows import ROWS
 from model_tests.call_runs import RUNS, Run
@@ -28,6 +33,9 @@ TEXTS = Path(__file__).resolve().parent / "texts"
 TRIED = 300
 """How many random texts are tried."""
 
+
+FORMS = (BODY - {"CALL"}) | {"PRE", "ENDPROC"}
+"""The forms of lines without calls."""
 
 KINDS = {
     (1, "OUTSIDE", "PRE"),
@@ -55,14 +63,27 @@ def refusal_of(text: bytes) -> tuple[str, int, str]:
     return "", 0, ""
 
 
+@dataclass(frozen=True)
+class Invented:
+    """A random text that is accepted, as it is written and expanded."""
+
+    name: str
+    text: bytes
+    written: CheckedText
+    expanded: CheckedText
+
+
 @cache
-def written_texts() -> list[tuple[str, CheckedText]]:
-    """The random texts with calls that are accepted, as they are written."""
+def invented() -> list[Invented]:
+    """The random texts with calls that are accepted."""
     found = []
     for seed in range(TRIED):
         text = invented_calls(seed)
-        if refusal_of(text)[0] == "":
-            found.append((f"text {seed}", written(text, True)))
+        try:
+            checked = written(text, True)
+        except Refused:
+            continue
+        found.append(Invented(f"text {seed}", text, checked, expanded(checked)))
     return found
 
 
@@ -98,6 +119,44 @@ class Refusals(unittest.TestCase):
         self.assertLessEqual({"", "E14", "E16"}, {refusal_of(strained(seed, True))[0] for seed in range(30)})
 
 
+    def test_brought_names(self) -> None:
+        """A variable with the new name of a place is refused at the call that brings it; of two the place that stands first."""
+        tried = 0
+        for one in invented():
+            text = one.text.decode("ascii")
+            for procedure in one.expanded.procedures:
+                names = [place.name for place in procedure.places if place.name[0] in "co"]
+                if not names:
+                    continue
+                tried += 1
+                taken = random.Random(one.name).sample(names, min(2, len(names)))
+                begin = text.index("PRE", text.index(f"PROC {procedure.name};"))
+                changed_text = text[:begin] + "".join(f"LOCAL {name} : BOOL;" for name in taken) + text[begin:]
+                first = min(taken, key=names.index)
+                place = begin
+                for _ in range(int(first[1 : first.index("_")])):
+                    place = changed_text.index("CALL ", place + 1)
+                self.assertEqual(refusal_of(changed_text.encode("ascii")), ("E08", place, first))
+        self.assertGreater(tried, 100)
+
+    def test_counted(self) -> None:
+        """The lines, places and names that the limits count are those of the expansion."""
+        for text in [*(one.text for one in invented()[:100]), *(strained(seed, True) for seed in range(30))]:
+            if refusal_of(text)[0]:
+                continue
+            statements = statements_of(tokens_of(text), True)
+            calls = calls_of(statements)
+            check_sizes(statements, calls)
+            check_fit(statements, calls)
+            counted = [(shape.lines, shape.places, shape.longest) for shape in calls.shapes.values()]
+            self.assertEqual(counted, [sizes_of(procedure) for procedure in accept(text, True).procedures])
+
+
+def sizes_of(procedure: CheckedProcedure) -> tuple[int, int, int]:
+    """How many lines and places a procedure has, and how long the longest name of a place is."""
+    return len(procedure.lines), len(procedure.places), max((len(place.name) for place in procedure.places), default=0)
+
+
 class Expansions(unittest.TestCase):
     """What calls become."""
 
@@ -116,6 +175,22 @@ class Expansions(unittest.TestCase):
         self.assertEqual([place.text() for place in found.places], worked.CALL_OUTER_PLACES)
         self.assertEqual(found.spans, [Span(1, 6, "inc"), Span(7, 18, "outer")])
         self.assertEqual([place.wrap for place in found.places if "v" in place.name], [True] * 4)
+
+    def test_whole(self) -> None:
+        """Expansions are checked procedures: their names differ, their copies stand last, and their lines name lines and places."""
+        for one in invented():
+            for procedure in one.expanded.procedures:
+                names = [place.name for place in procedure.places if not place.old]
+                self.assertEqual(len(names), len(set(names)))
+                copies = [place.name for place in procedure.places if place.old]
+                self.assertEqual(copies, [place.name for place in procedure.places[: len(names)] if place.mode == "INOUT"])
+                self.assertEqual([place.old for place in procedure.places], [False] * len(names) + [True] * len(copies))
+                self.assertEqual(len(procedure.origins), len(procedure.lines))
+                for line in procedure.lines:
+                    self.assertIn(line.form, FORMS)
+                    self.assertLess(-1 if line.target is None else line.target, len(procedure.lines))
+                    places = places_in(line.expression) | ({line.place} if line.place is not None else set())
+                    self.assertLess(max(places, default=-1), len(procedure.places))
 
     def test_own_lines(self) -> None:
         """A text without calls is its own expansion."""
@@ -136,7 +211,7 @@ class Expansions(unittest.TestCase):
         self.assertEqual(answer(text, calls=True), ((TEXTS / "voted_trip.report").read_text("ascii"), 0))
 
     def test_two_entries(self) -> None:
-        """A loop of a called procedure that is entered at two lines is told in the caller too, and which paths are shown is free."""
+        """A loop with two entries in a called procedure is told in the caller too, and which paths are shown is free."""
         output, status = answer(worked.CALL_TWO_ENTRIES, calls=True)
         self.assertIn("\nPROCEDURE q LINES 15\nEXPANDED L1 L13 p\nCONTROL\n", output)
         self.assertEqual(output.count("SHAPE TWO ENTRIES"), 2)
@@ -170,22 +245,23 @@ class Runs(unittest.TestCase):
     def test_invented(self) -> None:
         """The expansions of random texts run as the stack machine does."""
         called = 0
-        for name, text in written_texts():
-            called += any(line.callee is not None for procedure in text.procedures for line in procedure.lines)
-            with self.subTest(name):
-                self.assertEqual(strays_of(text, name, 5), [])
+        for one in invented():
+            called += any(procedure.spans for procedure in one.expanded.procedures)
+            with self.subTest(one.name):
+                self.assertEqual(strays_of(one.written, one.name, 5), [])
         self.assertGreater(called, TRIED // 2)
 
     def test_kinds(self) -> None:
         """Runs of the random texts halt in each part of a call, and in calls of calls."""
         met = set()
-        for name, text in written_texts():
-            for number, procedure in enumerate(text.procedures):
-                for seed in range(5):
-                    stack, halt = run(text, number, random_state(random.Random(f"{name} {seed}"), procedure), 300)
+        for one in invented():
+            choice = random.Random(one.name)
+            for number, procedure in enumerate(one.written.procedures):
+                for _ in range(5):
+                    stack, halt = run(one.written, number, random_state(choice, procedure), 300)
                     last = stack[-1]
                     if halt is not None:
-                        form = text.procedures[last.procedure].lines[last.line].form
+                        form = one.written.procedures[last.procedure].lines[last.line].form
                         met.add((min(len(stack), 3), halt.name, form))
         self.assertLessEqual(KINDS, met)
 
@@ -199,7 +275,7 @@ class Runs(unittest.TestCase):
         """An expansion with one kind of fault strays from the stack machine."""
         for change in (without_copies, with_late_origins, with_far_returns, without_back, without_least):
             with self.subTest(change.__name__):
-                self.assertTrue(any(strays_from(text, change(expanded(text))) for _, text in written_texts()))
+                self.assertTrue(any(strays_from(one.written, change(one.expanded)) for one in invented()))
 
 
 def strays_from(text: CheckedText, expansion: CheckedText) -> bool:
