@@ -4,9 +4,11 @@ from __future__ import annotations
 
 import random
 import unittest
+from collections import Counter
 from dataclasses import dataclass, replace
 from functools import cache
 from pathlib import Path
+from typing import Iterator
 
 from model.accepting import accept, written
 from model.calling import calls_of, check_fit, check_sizes
@@ -14,6 +16,7 @@ from model.command import answer, deeply, read_words
 from model.comparing import Answer, difference
 from model.exhaustive import faults_of
 from model.expanding import expanded
+from model.graphs import control_of, graph_of
 from model.inventing_calls import invented_calls
 from model.lexing import tokens_of
 from model.ordering import BODY
@@ -251,6 +254,15 @@ class Runs(unittest.TestCase):
                 self.assertEqual(strays_of(one.written, one.name, 5), [])
         self.assertGreater(called, TRIED // 2)
 
+    def test_variety(self) -> None:
+        """The random texts have calls in loops and in calls, and callees with RETURN, OLD, ranges that wrap and loops."""
+        met: Counter[str] = Counter()
+        for one in invented():
+            for procedure, short in zip(one.expanded.procedures, one.written.procedures):
+                met.update(traits_of(one.written, procedure, short))
+        for trait in ("in a loop", "in a call", "RETURN", "OLD", "WRAP", "LOOP"):
+            self.assertGreater(met[trait], 10, trait)
+
     def test_kinds(self) -> None:
         """Runs of the random texts halt in each part of a call, and in calls of calls."""
         met = set()
@@ -276,6 +288,23 @@ class Runs(unittest.TestCase):
         for change in (without_copies, with_late_origins, with_far_returns, without_back, without_least):
             with self.subTest(change.__name__):
                 self.assertTrue(any(strays_from(one.written, change(one.expanded)) for one in invented()))
+
+
+def traits_of(text: CheckedText, procedure: CheckedProcedure, short: CheckedProcedure) -> Iterator[str]:
+    """What the calls of a procedure have, which is given expanded and as it is written."""
+    loops = control_of(procedure, graph_of(procedure)).loops
+    if any(span.first in loop.members for span in procedure.spans for loop in loops):
+        yield "in a loop"
+    for number in {line.callee for line in short.lines if line.callee is not None}:
+        callee = text.procedures[number]
+        forms = {line.form for line in callee.lines}
+        yield from forms & {"RETURN", "LOOP"}
+        if "CALL" in forms:
+            yield "in a call"
+        if any(place.wrap for place in callee.places):
+            yield "WRAP"
+        if any(callee.places[place].old for line in callee.lines for place in places_in(line.expression)):
+            yield "OLD"
 
 
 def strays_from(text: CheckedText, expansion: CheckedText) -> bool:
