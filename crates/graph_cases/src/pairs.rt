@@ -56,7 +56,7 @@ fn marks_of(alloc: Global, count: usize, lines: &[usize]) -> Result<Vec<bool>, N
     Ok(marks)
 }
 
-/// The pair of a line among seven at most.
+/// The pair of a line among eight.
 fn asked(
     alloc: Global,
     arcs: &[(usize, usize)],

@@ -98,7 +98,9 @@ abbrev pub LeavesNothing : List Bracket → Statement → Type 0
 LeavesNothing front s = (leaves s ≡ true) × ((ks : List Kind) → Opens front ks → list_any is_round ks ≡ true → ⊥)
 
 -- the statement numbered i closes no fitting innermost block, or is an EXIT in no LOOP. A second ELSE finds the block of the
--- first one, which it does not fit; where a block is open at ENDPROC, it is the innermost one there.
+-- first one, which it does not fit; where a block is open at ENDPROC, it is the innermost one there. This is read under IsFirst
+-- alone: a front with a closer that fits nothing is no row of whole and open blocks, so nothing is open behind it, and all later
+-- closers and EXITs are unmatched too, whatever blocks they stand in.
 pub record IsUnmatched (stmts : List Placed) (i : ℕ) : Type 0 where
   pub stmt : Placed
   pub at : slice_get stmts i ≡ Some stmt

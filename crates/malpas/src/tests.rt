@@ -118,7 +118,7 @@ fn reports_texts(rt: HostRuntime) -> Result<(), Fail> {
     Ok(())
 }
 
-/// 64 procedures, which differ in name from each other by their length alone, and their report.
+/// 64 procedures, whose names are two letters each, from `aa` to `hh`, and their report.
 #[test]
 fn reports_64_procedures(rt: HostRuntime) -> Result<(), Fail> {
     let alloc = rt.alloc();
