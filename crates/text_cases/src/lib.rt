@@ -5,7 +5,11 @@
 #[cfg(test)]
 mod answers;
 #[cfg(test)]
+mod language;
+#[cfg(test)]
 mod refusals;
+#[cfg(test)]
+mod reported;
 #[cfg(test)]
 mod whole;
 #[cfg(test)]

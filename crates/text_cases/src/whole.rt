@@ -1,4 +1,5 @@
 //! The reports of whole texts, from their bytes to those of their reports.
+use crate::reported::{BUT_FLOW, CONTROL, PATHS, TABLES, VARIABLES};
 use acceptance::accept;
 use il_edge::SureSink;
 use malpas_suite::analyse;
@@ -6,52 +7,6 @@ use report::status_of;
 use report_text::{Selection, put};
 use std::alloc::Global;
 use std::test::Fail;
-
-const NOTHING: Selection = Selection {
-    control: false,
-    usage: false,
-    flow: false,
-    slice: false,
-    paths: false,
-    semantic: false,
-    inputs: false,
-    compliance: false,
-    certificates: false,
-};
-
-const CONTROL: Selection = Selection {
-    control: true,
-    ..NOTHING
-};
-
-const VARIABLES: Selection = Selection {
-    usage: true,
-    flow: true,
-    slice: true,
-    ..NOTHING
-};
-
-const PATHS: Selection = Selection {
-    paths: true,
-    ..NOTHING
-};
-
-/// The sections on tables, test inputs and threats.
-const TABLES: Selection = Selection {
-    semantic: true,
-    inputs: true,
-    compliance: true,
-    ..NOTHING
-};
-
-const BUT_FLOW: Selection = Selection {
-    control: true,
-    usage: true,
-    slice: true,
-    paths: true,
-    certificates: true,
-    ..TABLES
-};
 
 /// The sections that are asked for, what stands between PROC and ENDPROC, the status of the report, and the report.
 type Case<'a> = (Selection, &'a str, u8, &'a str);
