@@ -52,6 +52,75 @@ fn tokens_with_spans(rt: HostRuntime) -> Result<(), Fail> {
     Ok(())
 }
 
+/// Whether a text is one token of this kind.
+fn is_token(alloc: Global, text: &str, kind: TokenKind) -> Result<bool, Fail> {
+    let bytes = text.as_bytes();
+    if bytes.len() > 1_048_576 {
+        return Err(Fail::from("too long"));
+    }
+    let tokens = lex(alloc, bytes)?;
+    Ok(tokens.len() == 1 && tokens.get(0).is_some_and(|token| token.kind == kind))
+}
+
+#[test]
+fn keywords_have_their_spellings(rt: HostRuntime) -> Result<(), Fail> {
+    let cases = [
+        ("TITLE", Keyword::KwTitle),
+        ("CONST", Keyword::KwConst),
+        ("TYPE", Keyword::KwType),
+        ("PROC", Keyword::KwProc),
+        ("IN", Keyword::KwIn),
+        ("INOUT", Keyword::KwInout),
+        ("OUT", Keyword::KwOut),
+        ("LOCAL", Keyword::KwLocal),
+        ("BOOL", Keyword::KwBool),
+        ("PRE", Keyword::KwPre),
+        ("POST", Keyword::KwPost),
+        ("IF", Keyword::KwIf),
+        ("ELSE", Keyword::KwElse),
+        ("ENDIF", Keyword::KwEndif),
+        ("LOOP", Keyword::KwLoop),
+        ("ENDLOOP", Keyword::KwEndloop),
+        ("EXIT", Keyword::KwExit),
+        ("WHEN", Keyword::KwWhen),
+        ("LABEL", Keyword::KwLabel),
+        ("GOTO", Keyword::KwGoto),
+        ("SKIP", Keyword::KwSkip),
+        ("ASSERT", Keyword::KwAssert),
+        ("RETURN", Keyword::KwReturn),
+        ("ENDPROC", Keyword::KwEndproc),
+        ("FINISH", Keyword::KwFinish),
+        ("OLD", Keyword::KwOld),
+        ("TRUE", Keyword::KwTrue),
+        ("FALSE", Keyword::KwFalse),
+        ("NOT", Keyword::KwNot),
+        ("AND", Keyword::KwAnd),
+        ("OR", Keyword::KwOr),
+        ("DIV", Keyword::KwDiv),
+        ("MOD", Keyword::KwMod),
+        ("CALL", Keyword::KwCall),
+        ("WRAP", Keyword::KwWrap),
+    ];
+    for (text, keyword) in cases {
+        assert!(rt;
+            is_token(rt.alloc(), text, TokenKind::Key(keyword))?,
+            "{text}"
+        );
+        // A word is no keyword where one more letter stands behind it, or a small one before it.
+        let longer = format!(in rt.alloc(); "{text}S")?;
+        assert!(rt;
+            is_token(rt.alloc(), longer.as_str(), name(longer.as_bytes())?)?,
+            "{longer}"
+        );
+        let later = format!(in rt.alloc(); "e{text}")?;
+        assert!(rt;
+            is_token(rt.alloc(), later.as_str(), name(later.as_bytes())?)?,
+            "{later}"
+        );
+    }
+    Ok(())
+}
+
 /// The front of a text, which ends inside a token.
 const COPY: &[u8] =
     b"TITLE copy;\nPROC p;\nIN a : 0 .. 9;\nINOUT b : 0 .. 9;\nOUT c : 0 .. 9;\nLOCAL d : 0 .. 9;\n";

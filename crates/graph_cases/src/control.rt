@@ -1,5 +1,5 @@
 //! The control structure of graphs.
-use crate::texts::{ENDLESS, STRAIGHT, TWICE_ENTERED, graph_of};
+use crate::texts::{ENDLESS, NESTED, STRAIGHT, TWICE_ENTERED, graph_of};
 use control_flow::{Control, LoopInfo, Shape, control_of, reducible_cycles_hold_a_head};
 use std::alloc::Global;
 use std::test::Fail;
@@ -37,9 +37,30 @@ fn is_as(alloc: Global, case: &Case) -> Result<bool, Fail> {
 #[test]
 fn reducible_graphs(rt: HostRuntime) -> Result<(), Fail> {
     reducible_cycles_hold_a_head();
-    let cases: [Case; 2] = [
+    let cases: [Case; 5] = [
         (STRAIGHT, &[], &[], &[]),
         (ENDLESS, &[4], &[0, 1, 2, 3], &[(1, &[1, 2, 3], &[])]),
+        // a loop in a loop
+        (
+            NESTED,
+            &[],
+            &[],
+            &[(1, &[1, 2, 3, 4, 5, 6], &[]), (2, &[2, 3, 4], &[])],
+        ),
+        // leading assertions, and one more behind the test
+        (
+            "LOOP;ASSERT x < 9;ASSERT x < 8;EXIT WHEN x = 1;ASSERT x < 7;ENDLOOP;",
+            &[],
+            &[],
+            &[(1, &[1, 2, 3, 4, 5, 6], &[2, 3])],
+        ),
+        // a head that is an assertion: both EXITs lead to it, and line 4 comes back to it
+        (
+            "LOOP;EXIT;LABEL b;EXIT;ENDLOOP;ASSERT x < 9;ASSERT x < 8;IF x = 1;GOTO b;ENDIF;",
+            &[5],
+            &[],
+            &[(6, &[3, 4, 6, 7, 8, 9], &[6, 7])],
+        ),
     ];
     for case in cases.iter() {
         let (body, _, _, _) = case;

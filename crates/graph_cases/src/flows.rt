@@ -38,7 +38,7 @@ fn is_as(alloc: Global, case: &Case) -> Result<bool, Fail> {
 #[test]
 fn worked_rows(rt: HostRuntime) -> Result<(), Fail> {
     equal_values();
-    let cases: [Case; 4] = [
+    let cases: [Case; 6] = [
         ("OUT y : 0 .. 1;", "", &[(0, &[0], &[])]),
         (
             "IN b : 0 .. 9;IN c : 0 .. 9;OUT v : 0 .. 9;LOCAL t : 0 .. 9;",
@@ -56,6 +56,23 @@ fn worked_rows(rt: HostRuntime) -> Result<(), Fail> {
             &[(0, &[0], &[]), (1, &[0], &[4]), (2, &[0], &[4])],
         ),
         ("OUT y : 0 .. 1;", "LOOP;SKIP;ENDLOOP;", &[(0, &[], &[])]),
+        // a test of a value that was assigned, and an assertion, which decides nothing
+        (
+            "IN a : 0 .. 9;IN b : 0 .. 9;INOUT v : 0 .. 9;LOCAL t : 0 .. 9;",
+            "t := a;IF t = 1;v := b;ENDIF;ASSERT b = 1;",
+            &[
+                (0, &[0], &[]),
+                (1, &[1], &[]),
+                (2, &[0, 1, 2], &[2]),
+                (3, &[0], &[]),
+            ],
+        ),
+        // a test in a loop, and the test that leaves it
+        (
+            "IN c : 0 .. 9;IN d : 0 .. 9;INOUT v : 0 .. 9;",
+            "LOOP;EXIT WHEN c = 1;IF d = 1;v := v + 1;ENDIF;ENDLOOP;",
+            &[(0, &[0], &[]), (1, &[1], &[]), (2, &[0, 1, 2], &[2, 3])],
+        ),
     ];
     for case in cases.iter() {
         let (_, body, _) = case;

@@ -1,5 +1,5 @@
 //! The levels of graphs, and the order in which they take the lines.
-use crate::texts::{STRAIGHT, TWICE_ENTERED, graph_of};
+use crate::texts::{NESTED, STRAIGHT, TWICE_ENTERED, graph_of};
 use control_flow::control_of;
 use il_core::List;
 use interval_reduce::{Interval, derive, levels_tell_shape, one_derivation, reduction_theorem};
@@ -42,9 +42,19 @@ fn worked_levels(rt: HostRuntime) -> Result<(), Fail> {
     reduction_theorem();
     levels_tell_shape();
     one_derivation();
-    let cases: [Case; 3] = [
+    let cases: [Case; 4] = [
         // straight code is one interval
         (STRAIGHT, &[&[&[0, 1, 2, 3, 4]]], &[1, 2, 3]),
+        // the heads of a loop in a loop are taken last, the inner one first
+        (
+            NESTED,
+            &[
+                &[&[0], &[1], &[2, 3, 4, 5, 6, 7]],
+                &[&[0], &[1, 2]],
+                &[&[0, 1]],
+            ],
+            &[3, 4, 5, 6, 2, 1],
+        ),
         // a jump into a loop leaves single intervals
         (
             TWICE_ENTERED,

@@ -58,6 +58,9 @@ pub const ENDLESS: &str = "LOOP;SKIP;ENDLOOP;";
 /// A jump into a loop behind its first line.
 pub const TWICE_ENTERED: &str = "IF x = 1;GOTO a;ENDIF;LOOP;SKIP;LABEL a;EXIT WHEN x = 2;ENDLOOP;";
 
+/// A loop in a loop.
+pub const NESTED: &str = "LOOP;LOOP;EXIT WHEN x = 1;ENDLOOP;EXIT WHEN x = 2;ENDLOOP;";
+
 /// The order in which the lines of a reducible graph are taken.
 pub fn order_of(alloc: Global, graph: &FlowGraph) -> Result<List<usize>, Fail>
     requires { IsWellFormed graph.now }
