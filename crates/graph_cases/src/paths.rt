@@ -1,6 +1,6 @@
 //! All paths of graphs.
 use crate::texts::{ENDLESS, STRAIGHT, graph_of, order_of};
-use path_expr::{Def, Ref, paths};
+use path_expr::{Def, Ref, definitions_name_earlier_ones, paths};
 use std::alloc::Global;
 use std::test::Fail;
 
@@ -18,6 +18,7 @@ fn is_as(alloc: Global, case: &Case) -> Result<bool, Fail> {
 
 #[test]
 fn worked_paths(rt: HostRuntime) -> Result<(), Fail> {
+    definitions_name_earlier_ones();
     let cases: [Case; 6] = [
         // The smallest graph has one path.
         ("", &[], Ref::Arc(1)),

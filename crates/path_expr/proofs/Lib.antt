@@ -2,3 +2,4 @@ pub mod Marking
 pub mod Ranks
 pub mod Words
 pub mod LiveArcs
+pub mod Earlier

@@ -3,4 +3,5 @@ pub mod ArcPath
 pub mod Definitions
 pub mod Marks
 pub mod Report
+pub mod Laws
 pub mod Live

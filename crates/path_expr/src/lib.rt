@@ -6,9 +6,11 @@
 #![tactic(auto)]
 
 mod definitions;
+mod laws;
 mod live;
 mod path_report;
 mod report;
 
+pub use laws::definitions_name_earlier_ones;
 pub use path_report::paths;
 pub use report::{Def, PathReport, Ref};
