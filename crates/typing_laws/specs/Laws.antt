@@ -1,0 +1,38 @@
+-- The declarations and the kinds that these definitions give are those by which a text is accepted or refused.
+use Rattle.std.specs.Prelude.{◌≡◌, ◌↔◌, ℕ, ◌<◌, true, List, None, Some, is_some}
+use Rattle.il_core.specs.Statement.{Statement, Placed}
+use Rattle.il_core.specs.Tree.{Tree}
+use Rattle.il_types.specs.declared.kind.Kind.{Kind}
+use Rattle.il_types.specs.Names.{in_force}
+use Rattle.il_types.specs.Rules.{twice_at}
+use Rattle.il_types.specs.Typing.{kind_of, is_typed}
+use Rattle.il_syntax.specs.Order.{IsInOrder}
+use Rattle.il_built.specs.Holding.{setting_at}
+use Rattle.typing_laws.specs.Declared.{Says, DeclaredTwice, DeclaredOnce, InForce, IsKnown}
+use Rattle.typing_laws.specs.Typed.{Typed, WellTyped}
+
+-- the first name of statement i that has a declaration before
+pub record IsFirstTwice (stmts : List Placed) (i : ℕ) (name : List ℕ) : Type 0 where
+  pub index : ℕ
+  pub twice : DeclaredTwice stmts i index name
+  pub first : (k : ℕ) (other : List ℕ) → k < index → DeclaredTwice stmts i k other → ⊥
+
+pub record TwiceIsRefused (stmts : List Placed) (i : ℕ) (x : Statement) : Type 0 where
+  pub refused : (name : List ℕ) → (twice_at stmts i x ≡ Some name) ↔ IsFirstTwice stmts i name
+  pub accepted : (twice_at stmts i x ≡ None) ↔ ((k : ℕ) (name : List ℕ) → DeclaredTwice stmts i k name → ⊥)
+
+abbrev pub DeclaredTwiceIsRefused : Type 0
+DeclaredTwiceIsRefused = (stmts : List Placed) → IsInOrder stmts → (i : ℕ) (x : Statement) → Says stmts i x → TwiceIsRefused stmts i x
+
+pub record ForceIsFound (stmts : List Placed) (i : ℕ) (name : List ℕ) : Type 0 where
+  pub known : (is_some (in_force (setting_at stmts i) name) ≡ true) ↔ IsKnown stmts i name
+  pub found : DeclaredOnce stmts → (j k : ℕ) → (in_force (setting_at stmts i) name ≡ Some (j, k)) ↔ InForce stmts i name j k
+
+abbrev pub InForceIsFound : Type 0
+InForceIsFound = (stmts : List Placed) → IsInOrder stmts → (i : ℕ) (name : List ℕ) → ForceIsFound stmts i name
+
+abbrev pub TypedIsAccepted : Type 0
+TypedIsAccepted = (stmts : List Placed) → IsInOrder stmts → DeclaredOnce stmts → (i : ℕ) (e : Tree) (kind : Kind) → (kind_of (setting_at stmts i) e ≡ Some kind) ↔ Typed stmts i e kind
+
+abbrev pub WellTypedIsAccepted : Type 0
+WellTypedIsAccepted = (stmts : List Placed) → IsInOrder stmts → DeclaredOnce stmts → (i : ℕ) (x : Statement) → (is_typed (setting_at stmts i) x ≡ true) ↔ WellTyped stmts i x

@@ -1,0 +1,25 @@
+//! The laws, as contracts of functions that do nothing.
+ghost use Rattle.typing_laws.specs.Laws.{DeclaredTwiceIsRefused, InForceIsFound, TypedIsAccepted, WellTypedIsAccepted};
+
+/// In a text in order a statement is refused for a name that is declared twice exactly where one of its names has a declaration
+/// before it, and then with the first such name. This law costs nothing.
+pub fn declared_twice_is_refused()
+    ensures { DeclaredTwiceIsRefused }
+{}
+
+/// In a text in order a name is found exactly where a declaration of it is in force; and where no name is declared twice, exactly
+/// that declaration is found. This law costs nothing.
+pub fn in_force_is_found()
+    ensures { InForceIsFound }
+{}
+
+/// In a text in order whose names are declared once, an expression has a kind by the rules exactly where that kind is found for it.
+/// This law costs nothing.
+pub fn typed_is_accepted()
+    ensures { TypedIsAccepted }
+{}
+
+/// In such a text a statement keeps the rules on types exactly where it is accepted for its types. This law costs nothing.
+pub fn well_typed_is_accepted()
+    ensures { WellTypedIsAccepted }
+{}
