@@ -6,3 +6,4 @@ pub mod Twice
 pub mod Force
 pub mod ExpressionKinds
 pub mod StatementKinds
+pub mod Bounding

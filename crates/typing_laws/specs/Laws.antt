@@ -1,15 +1,27 @@
 -- The declarations and the kinds that these definitions give are those by which a text is accepted or refused.
 use Rattle.std.specs.Prelude.{◌≡◌, ◌↔◌, ℕ, ◌<◌, true, List, None, Some, is_some}
+use Rattle.il_core.specs.Bounds.{Bounds, IsNarrow, bounds_of}
 use Rattle.il_core.specs.Statement.{Statement, Placed}
 use Rattle.il_core.specs.Tree.{Tree}
+use Rattle.il_core.specs.declared.line.Place.{Place}
 use Rattle.il_types.specs.declared.kind.Kind.{Kind}
-use Rattle.il_types.specs.Names.{in_force}
+use Rattle.il_types.specs.declared.modes.Part.{Part}
+use Rattle.il_types.specs.Built.{built}
+use Rattle.il_types.specs.Modes.{keeps_modes}
+use Rattle.il_types.specs.Names.{in_force, counts_at}
+use Rattle.il_types.specs.Narrow.{static_bounds}
 use Rattle.il_types.specs.Rules.{twice_at}
 use Rattle.il_types.specs.Typing.{kind_of, is_typed}
 use Rattle.il_syntax.specs.Order.{IsInOrder}
+use Rattle.il_built.specs.CheckedText.{places_of}
 use Rattle.il_built.specs.Holding.{setting_at}
 use Rattle.typing_laws.specs.Declared.{Says, DeclaredTwice, DeclaredOnce, InForce, IsKnown}
+use Rattle.typing_laws.specs.Parts.{HasExpression}
 use Rattle.typing_laws.specs.Typed.{Typed, WellTyped}
+
+-- the places of the procedure in which statement i stands
+abbrev pub own_places : List Placed → ℕ → List Place
+own_places stmts i = places_of stmts (counts_at stmts i).procedures
 
 -- the first name of statement i that has a declaration before
 pub record IsFirstTwice (stmts : List Placed) (i : ℕ) (name : List ℕ) : Type 0 where
@@ -36,3 +48,10 @@ TypedIsAccepted = (stmts : List Placed) → IsInOrder stmts → DeclaredOnce stm
 
 abbrev pub WellTypedIsAccepted : Type 0
 WellTypedIsAccepted = (stmts : List Placed) → IsInOrder stmts → DeclaredOnce stmts → (i : ℕ) (x : Statement) → (is_typed (setting_at stmts i) x ≡ true) ↔ WellTyped stmts i x
+
+-- the static bounds of an expression as it is written are there exactly where each part of what is built of it has small bounds over the places
+-- of its procedure, and they are the bounds of that
+abbrev pub BoundsAreShared : Type 0
+BoundsAreShared = (stmts : List Placed) → IsInOrder stmts → (i : ℕ) (x : Statement) (part : Part) (e : Tree) → Says stmts i x → HasExpression x part e
+    → keeps_modes (setting_at stmts i) part e ≡ true → (b : Bounds)
+    → (static_bounds (setting_at stmts i) e ≡ Some b) ↔ ((bounds_of (own_places stmts i) (built (setting_at stmts i) e) ≡ b) × IsNarrow (own_places stmts i) (built (setting_at stmts i) e))

@@ -1,3 +1,4 @@
 pub mod Declared
+pub mod Parts
 pub mod Typed
 pub mod Laws

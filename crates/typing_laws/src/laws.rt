@@ -1,5 +1,5 @@
 //! The laws, as contracts of functions that do nothing.
-ghost use Rattle.typing_laws.specs.Laws.{DeclaredTwiceIsRefused, InForceIsFound, TypedIsAccepted, WellTypedIsAccepted};
+ghost use Rattle.typing_laws.specs.Laws.{BoundsAreShared, DeclaredTwiceIsRefused, InForceIsFound, TypedIsAccepted, WellTypedIsAccepted};
 
 /// In a text in order a statement is refused for a name that is declared twice exactly where one of its names has a declaration
 /// before it, and then with the first such name. This law costs nothing.
@@ -22,4 +22,11 @@ pub fn typed_is_accepted()
 /// In such a text a statement keeps the rules on types exactly where it is accepted for its types. This law costs nothing.
 pub fn well_typed_is_accepted()
     ensures { WellTypedIsAccepted }
+{}
+
+/// In a text in order, where the modes allow the uses of variables in the expression of a statement, the static bounds of the
+/// expression as it is written (`Narrow` of `il_types`) are there exactly where each part of what is built of it has small bounds
+/// over the places of its procedure (`Bounds` of `il_core`), and they are the bounds of that. This law costs nothing.
+pub fn bounds_are_shared()
+    ensures { BoundsAreShared }
 {}
