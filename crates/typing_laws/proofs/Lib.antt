@@ -7,3 +7,6 @@ pub mod Force
 pub mod ExpressionKinds
 pub mod StatementKinds
 pub mod Bounding
+pub mod UnknownNames
+pub mod EmptyRanges
+pub mod Modes

@@ -18,7 +18,7 @@ use Rattle.typing_laws.specs.Typed.{StandsFor, Typed, IsEnd, literal, named, Are
 use Rattle.typing_laws.proofs.ExpressionKinds.{IsFair, found, stands_declared, declared_stands, alone_index, values_kind, kind_values, variable_is, is_variable, typed_kind, kind_typed, whole_is, truth_is, both_true, one_true, none_some, one_enumeration}
 
 -- the number of an end of a range
-end_value : (stmts : List Placed) (i : ℕ) (b : Bound) (v : ℤ) → IsFair stmts → IsEnd stmts i b v → bound_value (setting_at stmts i) b ≡ Some v
+pub end_value : (stmts : List Placed) (i : ℕ) (b : Bound) (v : ℤ) → IsFair stmts → IsEnd stmts i b v → bound_value (setting_at stmts i) b ≡ Some v
 end_value stmts i b v fair (literal n) = refl
 end_value stmts i b v fair (named name called j n s) =
     ap (option_and_then (λ (d : Spot × Statement). constant_in d.1)) (stands_declared stmts i name j 0 (st.constant_is called n) fair s)
@@ -26,7 +26,7 @@ end_value stmts i b v fair (named name called j n s) =
 number_is : (a b : ℤ) → Some a ≡ Some b → a ≡ b
 number_is a b h = cc
 
-value_end : (stmts : List Placed) (i : ℕ) (b : Bound) (v : ℤ) → IsFair stmts → bound_value (setting_at stmts i) b ≡ Some v → IsEnd stmts i b v
+pub value_end : (stmts : List Placed) (i : ℕ) (b : Bound) (v : ℤ) → IsFair stmts → bound_value (setting_at stmts i) b ≡ Some v → IsEnd stmts i b v
 value_end stmts i (bound.Number n) v fair e = subst (IsEnd stmts i (bound.Number n)) (number_is n v e) (literal n)
 value_end stmts i (bound.Constant name) v fair e =
     let f = found (λ (d : Spot × Statement). constant_in d.1) (declaration (setting_at stmts i) name) v e in

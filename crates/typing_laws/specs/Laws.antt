@@ -1,5 +1,5 @@
 -- The declarations and the kinds that these definitions give are those by which a text is accepted or refused.
-use Rattle.std.specs.Prelude.{◌≡◌, ◌↔◌, ℕ, ◌<◌, true, List, None, Some, is_some}
+use Rattle.std.specs.Prelude.{◌≡◌, ◌↔◌, ℕ, ◌<◌, true, false, List, None, Some, is_some}
 use Rattle.il_core.specs.Bounds.{Bounds, IsNarrow, bounds_of}
 use Rattle.il_core.specs.Statement.{Statement, Placed}
 use Rattle.il_core.specs.Tree.{Tree}
@@ -7,17 +7,21 @@ use Rattle.il_core.specs.declared.line.Place.{Place}
 use Rattle.il_types.specs.declared.kind.Kind.{Kind}
 use Rattle.il_types.specs.declared.modes.Part.{Part}
 use Rattle.il_types.specs.Built.{built}
-use Rattle.il_types.specs.Modes.{keeps_modes}
+use Rattle.il_types.specs.Modes.{keeps_modes, is_allowed}
 use Rattle.il_types.specs.Names.{in_force, counts_at}
 use Rattle.il_types.specs.Narrow.{static_bounds}
+use Rattle.il_types.specs.Ranges.{has_range}
 use Rattle.il_types.specs.Rules.{twice_at}
 use Rattle.il_types.specs.Typing.{kind_of, is_typed}
+use Rattle.il_types.specs.Unknown.{unknown}
 use Rattle.il_syntax.specs.Order.{IsInOrder}
 use Rattle.il_built.specs.CheckedText.{places_of}
 use Rattle.il_built.specs.Holding.{setting_at}
+use Rattle.typing_laws.specs.Allowed.{BreaksModes, IsEmptyRange}
 use Rattle.typing_laws.specs.Declared.{Says, DeclaredTwice, DeclaredOnce, InForce, IsKnown}
 use Rattle.typing_laws.specs.Parts.{HasExpression}
 use Rattle.typing_laws.specs.Typed.{Typed, WellTyped}
+use Rattle.typing_laws.specs.Used.{used_names, IsFirstUnknown, AreKnown}
 
 -- the places of the procedure in which statement i stands
 abbrev pub own_places : List Placed → ℕ → List Place
@@ -44,10 +48,28 @@ abbrev pub InForceIsFound : Type 0
 InForceIsFound = (stmts : List Placed) → IsInOrder stmts → (i : ℕ) (name : List ℕ) → ForceIsFound stmts i name
 
 abbrev pub TypedIsAccepted : Type 0
-TypedIsAccepted = (stmts : List Placed) → IsInOrder stmts → DeclaredOnce stmts → (i : ℕ) (e : Tree) (kind : Kind) → (kind_of (setting_at stmts i) e ≡ Some kind) ↔ Typed stmts i e kind
+TypedIsAccepted = (stmts : List Placed) → IsInOrder stmts → DeclaredOnce stmts → (i : ℕ) (e : Tree) (kind : Kind)
+    → (kind_of (setting_at stmts i) e ≡ Some kind) ↔ Typed stmts i e kind
 
 abbrev pub WellTypedIsAccepted : Type 0
-WellTypedIsAccepted = (stmts : List Placed) → IsInOrder stmts → DeclaredOnce stmts → (i : ℕ) (x : Statement) → (is_typed (setting_at stmts i) x ≡ true) ↔ WellTyped stmts i x
+WellTypedIsAccepted = (stmts : List Placed) → IsInOrder stmts → DeclaredOnce stmts → (i : ℕ) (x : Statement)
+    → (is_typed (setting_at stmts i) x ≡ true) ↔ WellTyped stmts i x
+
+-- the first name that a statement uses without a declaration in force, in the order in which it is written
+pub record UnknownIsRefused (stmts : List Placed) (i : ℕ) (x : Statement) : Type 0 where
+  pub refused : (name : List ℕ) → (unknown (setting_at stmts i) x ≡ Some name) ↔ IsFirstUnknown stmts i (used_names x) name
+  pub accepted : (unknown (setting_at stmts i) x ≡ None) ↔ AreKnown stmts i (used_names x)
+
+abbrev pub UnknownNamesAreRefused : Type 0
+UnknownNamesAreRefused = (stmts : List Placed) → IsInOrder stmts → (i : ℕ) (x : Statement) → UnknownIsRefused stmts i x
+
+abbrev pub BrokenModesAreRefused : Type 0
+BrokenModesAreRefused = (stmts : List Placed) → IsInOrder stmts → DeclaredOnce stmts → (i : ℕ) (x : Statement)
+    → (is_allowed (setting_at stmts i) x ≡ false) ↔ BreaksModes stmts i x
+
+abbrev pub EmptyRangesAreRefused : Type 0
+EmptyRangesAreRefused = (stmts : List Placed) → IsInOrder stmts → DeclaredOnce stmts → (i : ℕ) (x : Statement)
+    → (has_range (setting_at stmts i) x ≡ false) ↔ IsEmptyRange stmts i x
 
 -- the static bounds of an expression as it is written are there exactly where each part of what is built of it has small bounds over the places
 -- of its procedure, and they are the bounds of that

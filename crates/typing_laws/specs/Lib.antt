@@ -1,4 +1,6 @@
 pub mod Declared
 pub mod Parts
 pub mod Typed
+pub mod Used
+pub mod Allowed
 pub mod Laws

@@ -1,5 +1,5 @@
 //! The laws, as contracts of functions that do nothing.
-ghost use Rattle.typing_laws.specs.Laws.{BoundsAreShared, DeclaredTwiceIsRefused, InForceIsFound, TypedIsAccepted, WellTypedIsAccepted};
+ghost use Rattle.typing_laws.specs.Laws.{BoundsAreShared, DeclaredTwiceIsRefused, BrokenModesAreRefused, EmptyRangesAreRefused, InForceIsFound, TypedIsAccepted, UnknownNamesAreRefused, WellTypedIsAccepted};
 
 /// In a text in order a statement is refused for a name that is declared twice exactly where one of its names has a declaration
 /// before it, and then with the first such name. This law costs nothing.
@@ -22,6 +22,24 @@ pub fn typed_is_accepted()
 /// In such a text a statement keeps the rules on types exactly where it is accepted for its types. This law costs nothing.
 pub fn well_typed_is_accepted()
     ensures { WellTypedIsAccepted }
+{}
+
+/// In a text in order a statement is refused for an unknown name exactly where one of the names that it uses has no declaration in
+/// force, and then with the first such name as the statement is written. This law costs nothing.
+pub fn unknown_names_are_refused()
+    ensures { UnknownNamesAreRefused }
+{}
+
+/// In a text in order whose names are declared once, a statement is refused for its modes exactly where it breaks one of the rules
+/// on modes. This law costs nothing.
+pub fn broken_modes_are_refused()
+    ensures { BrokenModesAreRefused }
+{}
+
+/// In such a text a statement is refused for an empty range exactly where it has a range whose least value is above its greatest.
+/// This law costs nothing.
+pub fn empty_ranges_are_refused()
+    ensures { EmptyRangesAreRefused }
 {}
 
 /// In a text in order, where the modes allow the uses of variables in the expression of a statement, the static bounds of the

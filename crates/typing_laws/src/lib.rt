@@ -7,5 +7,7 @@
 mod laws;
 
 pub use laws::{
-    declared_twice_is_refused, in_force_is_found, typed_is_accepted, well_typed_is_accepted,
+    bounds_are_shared, broken_modes_are_refused, declared_twice_is_refused,
+    empty_ranges_are_refused, in_force_is_found, typed_is_accepted, unknown_names_are_refused,
+    well_typed_is_accepted,
 };
