@@ -36,7 +36,7 @@ tests_small a b h = grind arith
 both : (a b : Bool) → a ≡ true → b ≡ true → (a && b) ≡ true
 both a b p q = ap (λ t. t && b) p ∙ q
 
-small_is : (b : Bounds) → AreSmall b → if_small b ≡ Some b
+pub small_is : (b : Bounds) → AreSmall b → if_small b ≡ Some b
 small_is b s = ap (λ t. if t then Some b else None) (both (is_small b.low) (is_small b.high) (tests_small _ _ s.0) (tests_small _ _ s.1))
 
 -- a place that is there, read by its flag

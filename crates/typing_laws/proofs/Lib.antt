@@ -10,3 +10,5 @@ pub mod Bounding
 pub mod UnknownNames
 pub mod EmptyRanges
 pub mod Modes
+pub mod RawBounds
+pub mod StaticBounds

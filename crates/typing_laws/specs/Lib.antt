@@ -3,4 +3,5 @@ pub mod Parts
 pub mod Typed
 pub mod Used
 pub mod Allowed
+pub mod Bounded
 pub mod Laws
