@@ -12,3 +12,4 @@ pub mod EmptyRanges
 pub mod Modes
 pub mod RawBounds
 pub mod StaticBounds
+pub mod Keeping

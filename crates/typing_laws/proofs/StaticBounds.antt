@@ -1,6 +1,6 @@
 -- The static bounds that are found for an expression are those that the rules give.
-use Rattle.std.proofs.Common.{◌≡◌, ℕ, suc, ◌-◌, ◌∙◌, sym, ap, subst, refl, Bool, true, false, List, ℤ, pos, length, arith, if◌then◌else◌}
-use Rattle.std.specs.Prelude.{Option, Some, None, is_some, unwrap_or, ◌↔◌}
+use Rattle.std.proofs.Common.{◌≡◌, ◌≢◌, ℕ, suc, ◌-◌, ◌∙◌, sym, ap, subst, refl, Bool, true, false, List, pos, length, arith, if◌then◌else◌}
+use Rattle.std.specs.Prelude.{Option, Some, None, is_some, unwrap_or}
 use Rattle.std.specs.Option.{option_and_then, option_map}
 use Rattle.il_core.specs.Bounds.{Bounds, AreSmall, only, operator_bounds}
 use Rattle.il_core.specs.Statement.{Statement, Placed}
@@ -16,16 +16,16 @@ use Rattle.il_types.specs.declared.kind.Kind.{Kind}
 use Rattle.il_types.specs.declared.kind.Kind.TheVariants.{Whole, Truth, Enumeration}
 use Rattle.il_types.specs.declared.range.Range.{Range}
 use Rattle.il_types.specs.Built.{bound_or_zero, range_between, range_in, range_of_use, is_flag, plain}
-use Rattle.il_types.specs.Names.{Setting, Spot, declaration}
+use Rattle.il_types.specs.Names.{Spot}
 use Rattle.il_types.specs.Narrow.{range_bounds, variable_bounds, value_bounds, named_bounds, recalled_value, recalled_bounds, opposite_bounds, static_bounds}
-use Rattle.il_types.specs.Typing.{bound_value, type_in, kind_of_use, is_truth}
+use Rattle.il_types.specs.Typing.{type_in, is_truth}
 use Rattle.il_built.specs.Holding.{setting_at}
 use Rattle.typing_laws.specs.Bounded.{LieAt, HasLimits, IsVariableWithin, Bounded, HasSmallParts, AllWellTyped}
 use Rattle.typing_laws.specs.Bounded as bounded
-use Rattle.typing_laws.specs.Declared.{Says}
-use Rattle.typing_laws.specs.Parts.{IsPart, whole, of_minus, of_opposite, of_left, of_right}
+use Rattle.typing_laws.specs.Parts.{whole, of_minus, of_opposite, of_left, of_right}
 use Rattle.typing_laws.specs.Typed.{StandsFor, HasValues, IsVariableOf, IsArithmetic, Typed, IsEnd, AreEnds, IsType, WellTyped}
 use Rattle.typing_laws.specs.Typed as typed
+use Rattle.typing_laws.specs.Laws.{BoundsAreFound}
 use Rattle.typing_laws.proofs.ExpressionKinds.{IsFair, stands_declared, own_count, own_setting, values_kind}
 use Rattle.typing_laws.proofs.StatementKinds.{end_value}
 use Rattle.typing_laws.proofs.RawBounds.{raw, SmallParts, zero_small, part_small, static_agrees, agrees_static}
@@ -213,3 +213,26 @@ parts_small stmts i e kind fair all (typed.same r x y j is t u) h = (
 -- and the other way round
 pub small_parts : (stmts : List Placed) (i : ℕ) (e : Tree) → IsFair stmts → SmallParts (setting_at stmts i) e → HasSmallParts stmts i e
 small_parts stmts i e fair h part b is has = subst AreSmall (bounded_raw stmts i part b fair has) (part_small (setting_at stmts i) part e is h)
+
+number_kind : (kind : Kind) → kind ≢ Truth → is_number kind ≡ true
+number_kind Whole h = refl
+number_kind Truth h = absurd (h refl)
+number_kind (Enumeration j) h = refl
+
+pub bounds_found : (stmts : List Placed) (i : ℕ) (e : Tree) (kind : Kind) → IsFair stmts → AllWellTyped stmts → Typed stmts i e kind → BoundsAreFound stmts i e kind
+bounds_found stmts i e kind fair all t = record {
+  there = (
+    λ h. by (static_bounds (setting_at stmts i) e) refl h,
+    λ h. ap is_some (agrees_static (setting_at stmts i) e (parts_small stmts i e kind fair all t h)),
+  );
+  exact = λ other b. (
+    λ h. let r = static_agrees (setting_at stmts i) e b h in
+        let d = has_bounds stmts i e kind all t (number_kind kind other) in
+        (subst (Bounded stmts i e) (sym (bounded_raw stmts i e d.0 fair d.1) ∙ r.same) d.1, small_parts stmts i e fair r.small),
+    λ h. agrees_static (setting_at stmts i) e (parts_small stmts i e kind fair all t h.1) ∙ ap Some (bounded_raw stmts i e b fair h.0),
+  );
+}
+  where
+    by : (o : Option Bounds) → static_bounds (setting_at stmts i) e ≡ o → is_some o ≡ true → HasSmallParts stmts i e
+    by None h g = absurd (cc)
+    by (Some b) h g = small_parts stmts i e fair (static_agrees (setting_at stmts i) e b h).small

@@ -1,23 +1,26 @@
 -- The declarations and the kinds that these definitions give are those by which a text is accepted or refused.
-use Rattle.std.specs.Prelude.{◌≡◌, ◌↔◌, ℕ, ◌<◌, true, false, List, None, Some, is_some}
+use Rattle.std.specs.Prelude.{◌≡◌, ◌≢◌, ◌↔◌, ℕ, ◌<◌, true, false, List, None, Some, is_some}
 use Rattle.il_core.specs.Bounds.{Bounds, IsNarrow, bounds_of}
 use Rattle.il_core.specs.Statement.{Statement, Placed}
 use Rattle.il_core.specs.Tree.{Tree}
 use Rattle.il_core.specs.declared.line.Place.{Place}
 use Rattle.il_types.specs.declared.kind.Kind.{Kind}
+use Rattle.il_types.specs.declared.kind.Kind.TheVariants.{Truth}
 use Rattle.il_types.specs.declared.modes.Part.{Part}
 use Rattle.il_types.specs.Built.{built}
 use Rattle.il_types.specs.Modes.{keeps_modes, is_allowed}
 use Rattle.il_types.specs.Names.{in_force, counts_at}
 use Rattle.il_types.specs.Narrow.{static_bounds}
 use Rattle.il_types.specs.Ranges.{has_range}
-use Rattle.il_types.specs.Rules.{twice_at}
+use Rattle.il_types.specs.Rules.{twice_at, Answers}
 use Rattle.il_types.specs.Typing.{kind_of, is_typed}
 use Rattle.il_types.specs.Unknown.{unknown}
 use Rattle.il_syntax.specs.Order.{IsInOrder}
 use Rattle.il_built.specs.CheckedText.{places_of}
 use Rattle.il_built.specs.Holding.{setting_at}
+use Rattle.typing_laws.specs.Accepted.{KeepsRules}
 use Rattle.typing_laws.specs.Allowed.{BreaksModes, IsEmptyRange}
+use Rattle.typing_laws.specs.Bounded.{Bounded, HasSmallParts, AllWellTyped}
 use Rattle.typing_laws.specs.Declared.{Says, DeclaredTwice, DeclaredOnce, InForce, IsKnown}
 use Rattle.typing_laws.specs.Parts.{HasExpression}
 use Rattle.typing_laws.specs.Typed.{Typed, WellTyped}
@@ -70,6 +73,20 @@ BrokenModesAreRefused = (stmts : List Placed) → IsInOrder stmts → DeclaredOn
 abbrev pub EmptyRangesAreRefused : Type 0
 EmptyRangesAreRefused = (stmts : List Placed) → IsInOrder stmts → DeclaredOnce stmts → (i : ℕ) (x : Statement)
     → (has_range (setting_at stmts i) x ≡ false) ↔ IsEmptyRange stmts i x
+
+-- static bounds are found exactly where no part of the expression has any that are too wide, and those of an expression that is no condition are
+-- the ones that the rules give
+pub record BoundsAreFound (stmts : List Placed) (i : ℕ) (e : Tree) (kind : Kind) : Type 0 where
+  pub there : (is_some (static_bounds (setting_at stmts i) e) ≡ true) ↔ HasSmallParts stmts i e
+  pub exact : kind ≢ Truth → (b : Bounds) → (static_bounds (setting_at stmts i) e ≡ Some b) ↔ (Bounded stmts i e b × HasSmallParts stmts i e)
+
+abbrev pub StaticBoundsAreFound : Type 0
+StaticBoundsAreFound = (stmts : List Placed) → IsInOrder stmts → DeclaredOnce stmts → AllWellTyped stmts → (i : ℕ) (e : Tree) (kind : Kind) → Typed stmts i e kind
+    → BoundsAreFound stmts i e kind
+
+-- no rule of names, types, modes, ranges, bounds and limits refuses a text in order exactly where it keeps these rules
+abbrev pub RulesAreKept : Type 0
+RulesAreKept = (stmts : List Placed) → IsInOrder stmts → Answers stmts None ↔ KeepsRules stmts
 
 -- the static bounds of an expression as it is written are there exactly where each part of what is built of it has small bounds over the places
 -- of its procedure, and they are the bounds of that

@@ -4,4 +4,5 @@ pub mod Typed
 pub mod Used
 pub mod Allowed
 pub mod Bounded
+pub mod Accepted
 pub mod Laws

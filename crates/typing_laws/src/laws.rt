@@ -1,5 +1,5 @@
 //! The laws, as contracts of functions that do nothing.
-ghost use Rattle.typing_laws.specs.Laws.{BoundsAreShared, DeclaredTwiceIsRefused, BrokenModesAreRefused, EmptyRangesAreRefused, InForceIsFound, TypedIsAccepted, UnknownNamesAreRefused, WellTypedIsAccepted};
+ghost use Rattle.typing_laws.specs.Laws.{BoundsAreShared, BrokenModesAreRefused, DeclaredTwiceIsRefused, EmptyRangesAreRefused, InForceIsFound, RulesAreKept, StaticBoundsAreFound, TypedIsAccepted, UnknownNamesAreRefused, WellTypedIsAccepted};
 
 /// In a text in order a statement is refused for a name that is declared twice exactly where one of its names has a declaration
 /// before it, and then with the first such name. This law costs nothing.
@@ -40,6 +40,19 @@ pub fn broken_modes_are_refused()
 /// This law costs nothing.
 pub fn empty_ranges_are_refused()
     ensures { EmptyRangesAreRefused }
+{}
+
+/// In a text in order whose names are declared once and whose statements keep the rules on types, the static bounds of a typed
+/// expression are found exactly where no part of it has bounds outside 2^126 on either side of 0; and those of an expression that
+/// is no condition are exactly the ones that the rules give. This law costs nothing.
+pub fn static_bounds_are_found()
+    ensures { StaticBoundsAreFound }
+{}
+
+/// A text in order is refused by no rule of names, types, modes, ranges, bounds and limits exactly where it keeps all of them, as
+/// they are defined here. This law costs nothing.
+pub fn rules_are_kept()
+    ensures { RulesAreKept }
 {}
 
 /// In a text in order, where the modes allow the uses of variables in the expression of a statement, the static bounds of the
