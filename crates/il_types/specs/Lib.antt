@@ -1,6 +1,7 @@
 pub mod Counts
 pub mod CountsBelow
 pub mod Names
+pub mod TreeCode
 pub mod Unknown
 pub mod Typing
 pub mod Modes

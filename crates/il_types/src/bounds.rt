@@ -9,9 +9,9 @@ use std::marker::Model;
 /// The greatest absolute value of a static bound.
 const BOUND_LIMIT: u128 = 1 << 126;
 
-/// Static bounds within the limit.
+/// Static bounds, each at most 2^126 on either side of 0.
 #[derive(Clone, Copy)]
-pub(crate) struct Bounds {
+pub struct Bounds {
     low: i128,
     high: i128,
 }

@@ -32,7 +32,8 @@ pub(crate) const LINE_LIMIT: usize = 1000;
 /// The greatest number of places of a procedure.
 pub(crate) const PLACE_LIMIT: usize = 64;
 
-fn is_line(form: &Form) -> bool
+/// Whether a statement is a line of its procedure: its PRE, the statements of its body and its ENDPROC are.
+pub fn is_line(form: &Form) -> bool
     ensures { result ≡ is_line (statement_of form.now) }
 {
     match form {
@@ -58,7 +59,8 @@ fn is_inout(mode: Mode) -> bool
     }
 }
 
-pub(crate) fn no_counts() -> Counts
+/// The counts in front of the first statement.
+pub fn no_counts() -> Counts
     ensures { result ≡ no_counts }
 {
     Counts {
@@ -71,7 +73,7 @@ pub(crate) fn no_counts() -> Counts
 }
 
 /// The counts behind statement `at`, from those before it.
-pub(crate) fn counts_behind(counts: Counts, at: usize, form: &Form) -> Counts
+pub fn counts_behind(counts: Counts, at: usize, form: &Form) -> Counts
     requires behind { IsBehind counts at }
     requires room { at + 1 < 2 ^ 64 }
     ensures counts { result ≡ counts_behind counts (statement_of form.now) }
@@ -107,8 +109,8 @@ fn are_too_many(variables: usize, copies: usize) -> bool
     variables > PLACE_LIMIT || copies > PLACE_LIMIT - variables
 }
 
-/// What there is too much of.
-pub(crate) fn too_many(counts: Counts) -> Option<Many>
+/// What there is too much of: more than 64 procedures, or in one more than 1,000 lines or 64 places; `None` where the counts keep the limits.
+pub fn too_many(counts: Counts) -> Option<Many>
     ensures { result ≡ too_many counts }
 {
     if counts.procedures > PROCEDURE_LIMIT {

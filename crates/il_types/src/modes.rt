@@ -1,11 +1,10 @@
-ghost use Rattle.std.specs.Prelude.{◌≡◌, map};
-ghost use Rattle.il_core.specs.Statement.{statement_of, placed};
+ghost use Rattle.std.specs.Prelude.{◌≡◌};
+ghost use Rattle.il_core.specs.Statement.{statement_of};
 ghost use Rattle.il_core.specs.Tree.{tree_of};
-ghost use Rattle.il_types.specs.Names.{setting};
 ghost use Rattle.il_types.specs.Modes.{mode_in, mode_of, may_name, may_recall, may_assign, keeps_modes, is_allowed};
 
-use crate::names::{Names, declaration};
-use il_core::{Form, Mode, Name, RawExpr, Stmt};
+use crate::setting::{Setting, declaration};
+use il_core::{Form, Mode, Name, RawExpr};
 
 /// Where an expression stands.
 #[derive(Clone, Copy, PartialEq, Eq)]
@@ -29,11 +28,11 @@ fn mode_in(form: &Form) -> Option<Mode>
     }
 }
 
-/// The mode of a name, where it is a variable's.
-fn mode_of(names: &Names, stmts: &[Stmt], owner: usize, at: usize, name: &Name) -> Option<Mode>
-    ensures { result ≡ mode_of (setting names.now (map placed stmts.now) owner at) name.now }
+/// The mode of the variable that a name stands for where it is used; `None` where it stands for none. One or two look-ups.
+pub fn mode_of(setting: &Setting<'_>, name: &Name) -> Option<Mode>
+    ensures { result ≡ mode_of setting.now name.now }
 {
-    match declaration(names, stmts, owner, at, name) {
+    match declaration(setting, name) {
         None => None,
         Some((_, form)) => mode_in(form),
     }
@@ -68,7 +67,8 @@ fn may_recall(part: Part, mode: Option<Mode>) -> bool
     }
 }
 
-fn may_assign(mode: Option<Mode>) -> bool
+/// Whether the mode of a name lets it be assigned: any but IN. A name that is no variable's has no mode, and is left to the typing rules.
+pub fn may_assign(mode: Option<Mode>) -> bool
     ensures { result ≡ may_assign mode }
 {
     match mode {
@@ -77,50 +77,37 @@ fn may_assign(mode: Option<Mode>) -> bool
     }
 }
 
-fn keeps_modes(
-    names: &Names,
-    stmts: &[Stmt],
-    owner: usize,
-    at: usize,
-    part: Part,
-    expr: &RawExpr,
-) -> bool
-    ensures { result ≡ keeps_modes (setting names.now (map placed stmts.now) owner at) part (tree_of expr.now) }
+/// Whether the modes allow each use of a variable in an expression: OLD names an INOUT variable and stands in PRE, POST and ASSERT alone,
+/// PRE names no OUT or LOCAL variable, POST no LOCAL one. Linear in the expression but for the look-ups by name.
+pub fn keeps_modes(setting: &Setting<'_>, part: Part, expr: &RawExpr) -> bool
+    ensures { result ≡ keeps_modes setting.now part (tree_of expr.now) }
 {
     match expr {
         RawExpr::Num(_) => true,
-        RawExpr::Ident(name) => may_name(part, mode_of(names, stmts, owner, at, name)),
-        RawExpr::Old(name) => may_recall(part, mode_of(names, stmts, owner, at, name)),
+        RawExpr::Ident(name) => may_name(part, mode_of(setting, name)),
+        RawExpr::Old(name) => may_recall(part, mode_of(setting, name)),
         RawExpr::Truth(_) => true,
-        RawExpr::Neg(inner) => keeps_modes(names, stmts, owner, at, part, inner),
-        RawExpr::Not(inner) => keeps_modes(names, stmts, owner, at, part, inner),
+        RawExpr::Neg(inner) => keeps_modes(setting, part, inner),
+        RawExpr::Not(inner) => keeps_modes(setting, part, inner),
         RawExpr::Binary(_, left, right) => {
-            keeps_modes(names, stmts, owner, at, part, left)
-                && keeps_modes(names, stmts, owner, at, part, right)
+            keeps_modes(setting, part, left) && keeps_modes(setting, part, right)
         }
     }
 }
 
 /// Whether a statement keeps the rules of modes.
-pub(crate) fn is_allowed(
-    names: &Names,
-    stmts: &[Stmt],
-    owner: usize,
-    at: usize,
-    form: &Form,
-) -> bool
-    ensures { result ≡ is_allowed (setting names.now (map placed stmts.now) owner at) (statement_of form.now) }
+pub(crate) fn is_allowed(setting: &Setting<'_>, form: &Form) -> bool
+    ensures { result ≡ is_allowed setting.now (statement_of form.now) }
 {
     match form {
-        Form::Pre(expr) => keeps_modes(names, stmts, owner, at, Part::Precondition, expr),
-        Form::Post(expr) => keeps_modes(names, stmts, owner, at, Part::Postcondition, expr),
+        Form::Pre(expr) => keeps_modes(setting, Part::Precondition, expr),
+        Form::Post(expr) => keeps_modes(setting, Part::Postcondition, expr),
         Form::Assign(name, expr) => {
-            may_assign(mode_of(names, stmts, owner, at, name))
-                && keeps_modes(names, stmts, owner, at, Part::Action, expr)
+            may_assign(mode_of(setting, name)) && keeps_modes(setting, Part::Action, expr)
         }
-        Form::If(expr) => keeps_modes(names, stmts, owner, at, Part::Action, expr),
-        Form::ExitWhen(expr) => keeps_modes(names, stmts, owner, at, Part::Action, expr),
-        Form::Assert(expr) => keeps_modes(names, stmts, owner, at, Part::Assertion, expr),
+        Form::If(expr) => keeps_modes(setting, Part::Action, expr),
+        Form::ExitWhen(expr) => keeps_modes(setting, Part::Action, expr),
+        Form::Assert(expr) => keeps_modes(setting, Part::Assertion, expr),
         _ => true,
     }
 }

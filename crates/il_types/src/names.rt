@@ -1,7 +1,8 @@
 ghost use Rattle.std.specs.Prelude.{◌≡◌, ◌<◌, ◌++◌, ◌∷◌, [], not, map, Some, None, MatchOption, IfOk, IfSome, OnErr, length, if◌then◌else◌};
 ghost use Rattle.std.specs.Map.{lookup};
+ghost use Rattle.std.specs.Option.{option_or};
 ghost use Rattle.il_core.specs.Statement.{statement_of, placed};
-ghost use Rattle.il_types.specs.Names.{same_key, is_taken, earlier, of_procedure, in_force, declaration, setting, said, first_taken, entries_from, entries, IsDeclared};
+ghost use Rattle.il_types.specs.Names.{same_key, is_taken, earlier, of_procedure, first_taken, entries_from, entries, IsDeclared};
 ghost use Rattle.il_types.specs.Rules.{Declares};
 
 use crate::counts::{counts_behind, no_counts};
@@ -25,7 +26,8 @@ impl Model for Names {
 }
 
 impl Names {
-    pub(crate) fn new(alloc: Global) -> Names
+    /// No declarations. It takes no memory.
+    pub fn new(alloc: Global) -> Names
         ensures { result ≡ [] }
     {
         Names {
@@ -65,15 +67,10 @@ impl Names {
         }
     }
 
-    /// The declaration of a name that is in force at statement `at`, in procedure `owner`.
-    pub(crate) fn in_force(
-        &self,
-        stmts: &[Stmt],
-        owner: usize,
-        at: usize,
-        name: &Name,
-    ) -> Option<(usize, usize)>
-        ensures { result ≡ in_force (setting self.now (map placed stmts.now) owner at) name.now }
+    /// The declaration of a name that is in force at statement `at` of procedure `owner` (0: before all procedures): that of a variable
+    /// of the procedure, or else that of an earlier statement for the whole text. One or two look-ups.
+    pub fn in_force(&self, owner: usize, at: usize, name: &Name) -> Option<(usize, usize)>
+        ensures { result ≡ option_or (of_procedure self.now owner name.now) (earlier at (lookup (same_key (0, name.now)) self.now)) }
     {
         match self.of_procedure(owner, name) {
             Some(spot) => Some(spot),
@@ -142,8 +139,10 @@ impl Names {
         }
     }
 
-    /// Declares the names of statement `at`, in procedure `owner`; answers the first that is taken.
-    fn declare_all_of(
+    /// Declares the names of statement `at`, in procedure `owner`: a variable in its procedure, all else in the whole text. The answer
+    /// is the first name that is taken, and `None` where all are declared. The error comes where memory runs out. Linear in the names of
+    /// the statement but for the look-ups by name.
+    pub fn declare_all_of(
         &mut self,
         owner: usize,
         at: usize,
@@ -185,33 +184,4 @@ pub fn declare_all(alloc: Global, stmts: &[Stmt]) -> Result<Names, TextEnd>
         counts = counts_behind(counts, i, &stmt.form);
     }
     Ok(names)
-}
-
-/// A statement that is there, and what it says.
-fn said(stmts: &[Stmt], spot: (usize, usize)) -> Option<((usize, usize), &Form)>
-    ensures value { MatchOption result (said (map placed stmts.now) spot ≡ None) (λ d. said (map placed stmts.now) spot ≡ Some (d.0, statement_of d.1.now)) }
-    ensures within { IfSome result (λ d. d.0.0 < length stmts.now) }
-{
-    match stmts.get(spot.0) {
-        None => None,
-        Some(stmt) => Some((spot, &stmt.form)),
-    }
-}
-
-/// The declaration of a name that is in force at statement `at` of procedure `owner` (0: before all procedures): its statement's
-/// number, which of that statement's names it is, and the form that makes it. `None` where there is none. One or two look-ups.
-pub fn declaration<'a>(
-    names: &Names,
-    stmts: &'a [Stmt],
-    owner: usize,
-    at: usize,
-    name: &Name,
-) -> Option<((usize, usize), &'a Form)>
-    ensures value { MatchOption result (declaration (setting names.now (map placed stmts.now) owner at) name.now ≡ None) (λ d. declaration (setting names.now (map placed stmts.now) owner at) name.now ≡ Some (d.0, statement_of d.1.now)) }
-    ensures within { IfSome result (λ d. d.0.0 < length stmts.now) }
-{
-    match names.in_force(stmts, owner, at, name) {
-        None => None,
-        Some(spot) => said(stmts, spot),
-    }
 }

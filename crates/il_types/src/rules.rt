@@ -2,7 +2,6 @@ ghost use Rattle.std.specs.Prelude.{◌≡◌, ◌<◌, ◌+◌, ◌^◌, ◌∷
 ghost use Rattle.il_core.specs.Statement.{statement_of, placed};
 ghost use Rattle.il_types.specs.Counted.{AreCounted};
 ghost use Rattle.il_types.specs.CountsBelow.{IsBehind};
-ghost use Rattle.il_types.specs.Names.{setting};
 ghost use Rattle.il_types.specs.Rules.{naming, unnamed, unless, fault, refusal_of, broken, IsRefused, Refuses, passes_with};
 
 use crate::counts::{Counts, counts_behind, no_counts, too_many};
@@ -10,6 +9,7 @@ use crate::modes::is_allowed;
 use crate::names::Names;
 use crate::narrow::is_narrow;
 use crate::ranges::has_range;
+use crate::setting::Setting;
 use crate::typing::is_typed;
 use crate::unknown::unknown;
 use il_core::{Code, Form, Name, Refusal, Stmt};
@@ -40,7 +40,8 @@ pub enum Rule {
     Limited,
 }
 
-fn naming(code: Code, name: Name) -> Found
+/// A code with the name at fault.
+pub fn naming(code: Code, name: Name) -> Found
     ensures { result ≡ naming code name }
 {
     Found {
@@ -55,45 +56,38 @@ fn unnamed(code: Code) -> Found
     Found { code, name: None }
 }
 
-fn unless(kept: bool, code: Code) -> Option<Found>
+/// The code, with no name, unless what it asks is kept.
+pub fn unless(kept: bool, code: Code) -> Option<Found>
     ensures { result ≡ unless kept code }
 {
     if kept { None } else { Some(unnamed(code)) }
 }
 
-/// What statement `at` breaks of a rule.
-fn fault(
-    rule: Rule,
-    names: &Names,
-    before: &[Counts],
-    stmts: &[Stmt],
-    counts: Counts,
-    at: usize,
-    form: &Form,
-) -> Option<Found>
-    requires counted { AreCounted (map placed stmts.now) before.now }
-    requires behind { IsBehind counts at }
-    requires room { at + 1 < 2 ^ 64 }
-    ensures { result ≡ fault rule (setting names.now (map placed stmts.now) counts.procedures at) counts (statement_of form.now) }
+/// What a statement breaks of a rule, with the counts in front of it; `None` where it keeps the rule. Linear in the statement but for
+/// the look-ups by name.
+pub fn fault(rule: Rule, setting: &Setting<'_>, counts: Counts, form: &Form) -> Option<Found>
+    requires behind { IsBehind counts setting.now.at }
+    requires room { setting.now.at + 1 < 2 ^ 64 }
+    ensures { result ≡ fault rule setting.now counts (statement_of form.now) }
 {
-    let owner = counts.procedures;
     match rule {
-        Rule::Known => match unknown(names, stmts, owner, at, form) {
+        Rule::Known => match unknown(setting, form) {
             None => None,
             Some(name) => Some(naming(Code::Unknown, name)),
         },
-        Rule::Typed => unless(is_typed(names, stmts, owner, at, form), Code::Typing),
-        Rule::Allowed => unless(is_allowed(names, stmts, owner, at, form), Code::Access),
-        Rule::Filled => unless(has_range(names, stmts, owner, at, form), Code::EmptyRange),
-        Rule::Narrow => unless(is_narrow(names, before, stmts, owner, at, form), Code::Wide),
-        Rule::Limited => match too_many(counts_behind(counts, at, form)) {
+        Rule::Typed => unless(is_typed(setting, form), Code::Typing),
+        Rule::Allowed => unless(is_allowed(setting, form), Code::Access),
+        Rule::Filled => unless(has_range(setting, form), Code::EmptyRange),
+        Rule::Narrow => unless(is_narrow(setting, form), Code::Wide),
+        Rule::Limited => match too_many(counts_behind(counts, setting.at(), form)) {
             None => None,
             Some(many) => Some(unnamed(Code::TooMany(many))),
         },
     }
 }
 
-fn refusal_of(found: Found, place: usize) -> Refusal
+/// The refusal at a place for what was found.
+pub fn refusal_of(found: Found, place: usize) -> Refusal
     ensures { result ≡ refusal_of found place }
 {
     Refusal {
@@ -110,7 +104,8 @@ fn first_broken(rule: Rule, names: &Names, before: &[Counts], stmts: &[Stmt]) ->
 {
     let mut counts = no_counts();
     for (i, stmt) in stmts.iter().enumerate() {
-        match fault(rule, names, before, stmts, counts, i, &stmt.form) {
+        let setting = Setting::new(names, before, stmts, counts.procedures, i);
+        match fault(rule, &setting, counts, &stmt.form) {
             None => {}
             Some(found) => {
                 return Some(refusal_of(found, stmt.place));

@@ -1,12 +1,11 @@
-ghost use Rattle.std.specs.Prelude.{◌≡◌, map};
-ghost use Rattle.il_core.specs.Statement.{statement_of, placed};
+ghost use Rattle.std.specs.Prelude.{◌≡◌};
+ghost use Rattle.il_core.specs.Statement.{statement_of};
 ghost use Rattle.il_core.specs.Tree.{tree_of};
-ghost use Rattle.il_types.specs.Names.{setting};
 ghost use Rattle.il_types.specs.Typing.{constant_in, bound_value, type_in, kind_of_use, variable_in, kind_of_variable, value_in, kind_of_value, is_whole, is_truth, is_enumeration, are_of_one, are_whole, are_truth, is_equality, are_comparable, kind_if, kind_of_two, kind_of, are_bounds, is_type, may_hold, is_condition, is_typed};
 
 use crate::kind::Kind;
-use crate::names::{Names, declaration};
-use il_core::{BinOp, Bound, Form, Name, RawExpr, Relation, Stmt, TypeUse};
+use crate::setting::{Setting, declaration};
+use il_core::{BinOp, Bound, Form, Name, RawExpr, Relation, TypeUse};
 
 fn constant_in(form: &Form) -> Option<i64>
     ensures { result ≡ constant_in (statement_of form.now) }
@@ -18,18 +17,12 @@ fn constant_in(form: &Form) -> Option<i64>
 }
 
 /// The value of an end of a range; `None` where its name is no constant's.
-pub(crate) fn bound_value(
-    names: &Names,
-    stmts: &[Stmt],
-    owner: usize,
-    at: usize,
-    bound: &Bound,
-) -> Option<i64>
-    ensures { result ≡ bound_value (setting names.now (map placed stmts.now) owner at) bound.now }
+pub(crate) fn bound_value(setting: &Setting<'_>, bound: &Bound) -> Option<i64>
+    ensures { result ≡ bound_value setting.now bound.now }
 {
     match bound {
         Bound::Number(value) => Some(*value),
-        Bound::Constant(name) => match declaration(names, stmts, owner, at, name) {
+        Bound::Constant(name) => match declaration(setting, name) {
             None => None,
             Some((_, form)) => constant_in(form),
         },
@@ -51,18 +44,13 @@ fn type_in(spot: (usize, usize), form: &Form) -> Option<Kind>
     }
 }
 
-pub(crate) fn kind_of_use(
-    names: &Names,
-    stmts: &[Stmt],
-    owner: usize,
-    at: usize,
-    used: &TypeUse,
-) -> Option<Kind>
-    ensures { result ≡ kind_of_use (setting names.now (map placed stmts.now) owner at) used.now }
+/// The kind of the values of a type, where the type is used; `None` where its name is no type's. One or two look-ups.
+pub fn kind_of_use(setting: &Setting<'_>, used: &TypeUse) -> Option<Kind>
+    ensures { result ≡ kind_of_use setting.now used.now }
 {
     match used {
         TypeUse::Bool => Some(Kind::Truth),
-        TypeUse::Named(name) => match declaration(names, stmts, owner, at, name) {
+        TypeUse::Named(name) => match declaration(setting, name) {
             None => None,
             Some((spot, form)) => type_in(spot, form),
         },
@@ -71,47 +59,27 @@ pub(crate) fn kind_of_use(
     }
 }
 
-fn variable_in(
-    names: &Names,
-    stmts: &[Stmt],
-    owner: usize,
-    at: usize,
-    spot: (usize, usize),
-    form: &Form,
-) -> Option<Kind>
-    ensures { result ≡ variable_in (setting names.now (map placed stmts.now) owner at) spot (statement_of form.now) }
+fn variable_in(setting: &Setting<'_>, spot: (usize, usize), form: &Form) -> Option<Kind>
+    ensures { result ≡ variable_in setting.now spot (statement_of form.now) }
 {
     match form {
-        Form::Variable(_, _, used) => kind_of_use(names, stmts, owner, spot.0, used),
+        Form::Variable(_, _, used) => kind_of_use(&setting.at_statement(spot.0), used),
         _ => None,
     }
 }
 
-/// The kind of the variable that a name stands for.
-fn kind_of_variable(
-    names: &Names,
-    stmts: &[Stmt],
-    owner: usize,
-    at: usize,
-    name: &Name,
-) -> Option<Kind>
-    ensures { result ≡ kind_of_variable (setting names.now (map placed stmts.now) owner at) name.now }
+/// The kind of the variable that a name stands for; `None` where it stands for none, or its type is none. A few look-ups.
+pub fn kind_of_variable(setting: &Setting<'_>, name: &Name) -> Option<Kind>
+    ensures { result ≡ kind_of_variable setting.now name.now }
 {
-    match declaration(names, stmts, owner, at, name) {
+    match declaration(setting, name) {
         None => None,
-        Some((spot, form)) => variable_in(names, stmts, owner, at, spot, form),
+        Some((spot, form)) => variable_in(setting, spot, form),
     }
 }
 
-fn value_in(
-    names: &Names,
-    stmts: &[Stmt],
-    owner: usize,
-    at: usize,
-    spot: (usize, usize),
-    form: &Form,
-) -> Option<Kind>
-    ensures { result ≡ value_in (setting names.now (map placed stmts.now) owner at) spot (statement_of form.now) }
+fn value_in(setting: &Setting<'_>, spot: (usize, usize), form: &Form) -> Option<Kind>
+    ensures { result ≡ value_in setting.now spot (statement_of form.now) }
 {
     match form {
         Form::Const(_, _) => Some(Kind::Whole),
@@ -120,24 +88,18 @@ fn value_in(
         } else {
             Some(Kind::Enumeration(spot.0))
         },
-        Form::Variable(_, _, used) => kind_of_use(names, stmts, owner, spot.0, used),
+        Form::Variable(_, _, used) => kind_of_use(&setting.at_statement(spot.0), used),
         _ => None,
     }
 }
 
 /// The kind of the value that a name stands for.
-fn kind_of_value(
-    names: &Names,
-    stmts: &[Stmt],
-    owner: usize,
-    at: usize,
-    name: &Name,
-) -> Option<Kind>
-    ensures { result ≡ kind_of_value (setting names.now (map placed stmts.now) owner at) name.now }
+fn kind_of_value(setting: &Setting<'_>, name: &Name) -> Option<Kind>
+    ensures { result ≡ kind_of_value setting.now name.now }
 {
-    match declaration(names, stmts, owner, at, name) {
+    match declaration(setting, name) {
         None => None,
-        Some((spot, form)) => value_in(names, stmts, owner, at, spot, form),
+        Some((spot, form)) => value_in(setting, spot, form),
     }
 }
 
@@ -222,84 +184,71 @@ fn kind_of_two(op: BinOp, left: Option<Kind>, right: Option<Kind>) -> Option<Kin
     }
 }
 
-/// The kind of an expression; `None` where it breaks the typing rules.
-fn kind_of(names: &Names, stmts: &[Stmt], owner: usize, at: usize, expr: &RawExpr) -> Option<Kind>
-    ensures { result ≡ kind_of (setting names.now (map placed stmts.now) owner at) (tree_of expr.now) }
+/// The kind of an expression; `None` where it breaks the typing rules. Linear in the expression but for the look-ups by name.
+pub fn kind_of(setting: &Setting<'_>, expr: &RawExpr) -> Option<Kind>
+    ensures { result ≡ kind_of setting.now (tree_of expr.now) }
 {
     match expr {
         RawExpr::Num(_) => Some(Kind::Whole),
-        RawExpr::Ident(name) => kind_of_value(names, stmts, owner, at, name),
-        RawExpr::Old(name) => kind_of_variable(names, stmts, owner, at, name),
+        RawExpr::Ident(name) => kind_of_value(setting, name),
+        RawExpr::Old(name) => kind_of_variable(setting, name),
         RawExpr::Truth(_) => Some(Kind::Truth),
-        RawExpr::Neg(inner) => kind_if(
-            is_whole(kind_of(names, stmts, owner, at, inner)),
-            Kind::Whole,
-        ),
-        RawExpr::Not(inner) => kind_if(
-            is_truth(kind_of(names, stmts, owner, at, inner)),
-            Kind::Truth,
-        ),
+        RawExpr::Neg(inner) => kind_if(is_whole(kind_of(setting, inner)), Kind::Whole),
+        RawExpr::Not(inner) => kind_if(is_truth(kind_of(setting, inner)), Kind::Truth),
         RawExpr::Binary(op, left, right) => kind_of_two(
             *op,
-            kind_of(names, stmts, owner, at, left),
-            kind_of(names, stmts, owner, at, right),
+            kind_of(setting, left),
+            kind_of(setting, right),
         ),
     }
 }
 
-fn are_bounds(
-    names: &Names,
-    stmts: &[Stmt],
-    owner: usize,
-    at: usize,
-    least: &Bound,
-    greatest: &Bound,
-) -> bool
-    ensures { result ≡ are_bounds (setting names.now (map placed stmts.now) owner at) least.now greatest.now }
+fn are_bounds(setting: &Setting<'_>, least: &Bound, greatest: &Bound) -> bool
+    ensures { result ≡ are_bounds setting.now least.now greatest.now }
 {
-    bound_value(names, stmts, owner, at, least).is_some()
-        && bound_value(names, stmts, owner, at, greatest).is_some()
+    bound_value(setting, least).is_some() && bound_value(setting, greatest).is_some()
 }
 
-fn is_type(names: &Names, stmts: &[Stmt], owner: usize, at: usize, used: &TypeUse) -> bool
-    ensures { result ≡ is_type (setting names.now (map placed stmts.now) owner at) used.now }
+fn is_type(setting: &Setting<'_>, used: &TypeUse) -> bool
+    ensures { result ≡ is_type setting.now used.now }
 {
     match used {
-        TypeUse::Range(least, greatest) => are_bounds(names, stmts, owner, at, least, greatest),
-        TypeUse::Wrap(least, greatest) => are_bounds(names, stmts, owner, at, least, greatest),
-        _ => kind_of_use(names, stmts, owner, at, used).is_some(),
+        TypeUse::Range(least, greatest) => are_bounds(setting, least, greatest),
+        TypeUse::Wrap(least, greatest) => are_bounds(setting, least, greatest),
+        _ => kind_of_use(setting, used).is_some(),
     }
 }
 
-fn may_hold(variable: Option<Kind>, value: Option<Kind>) -> bool
+/// Whether a variable of one kind holds a value of the other: both are whole, both truth values, or both of one enumeration.
+pub fn may_hold(variable: Option<Kind>, value: Option<Kind>) -> bool
     ensures { result ≡ may_hold variable value }
 {
     are_whole(variable, value) || (are_truth(variable, value) || are_of_one(variable, value))
 }
 
-fn is_condition(names: &Names, stmts: &[Stmt], owner: usize, at: usize, expr: &RawExpr) -> bool
-    ensures { result ≡ is_condition (setting names.now (map placed stmts.now) owner at) (tree_of expr.now) }
+fn is_condition(setting: &Setting<'_>, expr: &RawExpr) -> bool
+    ensures { result ≡ is_condition setting.now (tree_of expr.now) }
 {
-    is_truth(kind_of(names, stmts, owner, at, expr))
+    is_truth(kind_of(setting, expr))
 }
 
 /// Whether a statement keeps the rules of types.
-pub(crate) fn is_typed(names: &Names, stmts: &[Stmt], owner: usize, at: usize, form: &Form) -> bool
-    ensures { result ≡ is_typed (setting names.now (map placed stmts.now) owner at) (statement_of form.now) }
+pub(crate) fn is_typed(setting: &Setting<'_>, form: &Form) -> bool
+    ensures { result ≡ is_typed setting.now (statement_of form.now) }
 {
     match form {
-        Form::RangeType(_, least, greatest) => are_bounds(names, stmts, owner, at, least, greatest),
-        Form::WrapType(_, least, greatest) => are_bounds(names, stmts, owner, at, least, greatest),
-        Form::Variable(_, _, used) => is_type(names, stmts, owner, at, used),
-        Form::Pre(expr) => is_condition(names, stmts, owner, at, expr),
-        Form::Post(expr) => is_condition(names, stmts, owner, at, expr),
+        Form::RangeType(_, least, greatest) => are_bounds(setting, least, greatest),
+        Form::WrapType(_, least, greatest) => are_bounds(setting, least, greatest),
+        Form::Variable(_, _, used) => is_type(setting, used),
+        Form::Pre(expr) => is_condition(setting, expr),
+        Form::Post(expr) => is_condition(setting, expr),
         Form::Assign(name, expr) => may_hold(
-            kind_of_variable(names, stmts, owner, at, name),
-            kind_of(names, stmts, owner, at, expr),
+            kind_of_variable(setting, name),
+            kind_of(setting, expr),
         ),
-        Form::If(expr) => is_condition(names, stmts, owner, at, expr),
-        Form::ExitWhen(expr) => is_condition(names, stmts, owner, at, expr),
-        Form::Assert(expr) => is_condition(names, stmts, owner, at, expr),
+        Form::If(expr) => is_condition(setting, expr),
+        Form::ExitWhen(expr) => is_condition(setting, expr),
+        Form::Assert(expr) => is_condition(setting, expr),
         _ => true,
     }
 }

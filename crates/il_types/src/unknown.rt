@@ -1,120 +1,86 @@
-ghost use Rattle.std.specs.Prelude.{◌≡◌, map};
-ghost use Rattle.il_core.specs.Statement.{statement_of, placed};
+ghost use Rattle.std.specs.Prelude.{◌≡◌};
+ghost use Rattle.il_core.specs.Statement.{statement_of};
 ghost use Rattle.il_core.specs.Tree.{tree_of};
-ghost use Rattle.il_types.specs.Names.{setting};
 ghost use Rattle.il_types.specs.Unknown.{unknown_name, unknown_bound, unknown_bounds, unknown_use, unknown_in, unknown};
 
-use crate::names::Names;
-use il_core::{Bound, Form, Name, RawExpr, Stmt, TypeUse};
+use crate::setting::Setting;
+use il_core::{Bound, Form, Name, RawExpr, TypeUse};
 
-fn unknown_name(names: &Names, stmts: &[Stmt], owner: usize, at: usize, name: &Name) -> Option<Name>
-    ensures { result ≡ unknown_name (setting names.now (map placed stmts.now) owner at) name.now }
+/// A name that has no declaration in force where it is used, or `None` where it has one. One or two look-ups.
+pub fn unknown_name(setting: &Setting<'_>, name: &Name) -> Option<Name>
+    ensures { result ≡ unknown_name setting.now name.now }
 {
-    match names.in_force(stmts, owner, at, name) {
+    match setting.in_force(name) {
         Some(_) => None,
         None => Some(*name),
     }
 }
 
-fn unknown_bound(
-    names: &Names,
-    stmts: &[Stmt],
-    owner: usize,
-    at: usize,
-    bound: &Bound,
-) -> Option<Name>
-    ensures { result ≡ unknown_bound (setting names.now (map placed stmts.now) owner at) bound.now }
+fn unknown_bound(setting: &Setting<'_>, bound: &Bound) -> Option<Name>
+    ensures { result ≡ unknown_bound setting.now bound.now }
 {
     match bound {
         Bound::Number(_) => None,
-        Bound::Constant(name) => unknown_name(names, stmts, owner, at, name),
+        Bound::Constant(name) => unknown_name(setting, name),
     }
 }
 
-fn unknown_bounds(
-    names: &Names,
-    stmts: &[Stmt],
-    owner: usize,
-    at: usize,
-    least: &Bound,
-    greatest: &Bound,
-) -> Option<Name>
-    ensures { result ≡ unknown_bounds (setting names.now (map placed stmts.now) owner at) least.now greatest.now }
+fn unknown_bounds(setting: &Setting<'_>, least: &Bound, greatest: &Bound) -> Option<Name>
+    ensures { result ≡ unknown_bounds setting.now least.now greatest.now }
 {
-    match unknown_bound(names, stmts, owner, at, least) {
+    match unknown_bound(setting, least) {
         Some(name) => Some(name),
-        None => unknown_bound(names, stmts, owner, at, greatest),
+        None => unknown_bound(setting, greatest),
     }
 }
 
-fn unknown_use(
-    names: &Names,
-    stmts: &[Stmt],
-    owner: usize,
-    at: usize,
-    used: &TypeUse,
-) -> Option<Name>
-    ensures { result ≡ unknown_use (setting names.now (map placed stmts.now) owner at) used.now }
+fn unknown_use(setting: &Setting<'_>, used: &TypeUse) -> Option<Name>
+    ensures { result ≡ unknown_use setting.now used.now }
 {
     match used {
         TypeUse::Bool => None,
-        TypeUse::Named(name) => unknown_name(names, stmts, owner, at, name),
-        TypeUse::Range(least, greatest) => unknown_bounds(names, stmts, owner, at, least, greatest),
-        TypeUse::Wrap(least, greatest) => unknown_bounds(names, stmts, owner, at, least, greatest),
+        TypeUse::Named(name) => unknown_name(setting, name),
+        TypeUse::Range(least, greatest) => unknown_bounds(setting, least, greatest),
+        TypeUse::Wrap(least, greatest) => unknown_bounds(setting, least, greatest),
     }
 }
 
-/// The first name of an expression that is unknown.
-fn unknown_in(
-    names: &Names,
-    stmts: &[Stmt],
-    owner: usize,
-    at: usize,
-    expr: &RawExpr,
-) -> Option<Name>
-    ensures { result ≡ unknown_in (setting names.now (map placed stmts.now) owner at) (tree_of expr.now) }
+/// The first name of an expression that has no declaration in force where it is used, from left to right; `None` where each has one.
+/// Linear in the expression but for the look-ups by name.
+pub fn unknown_in(setting: &Setting<'_>, expr: &RawExpr) -> Option<Name>
+    ensures { result ≡ unknown_in setting.now (tree_of expr.now) }
 {
     match expr {
         RawExpr::Num(_) => None,
-        RawExpr::Ident(name) => unknown_name(names, stmts, owner, at, name),
-        RawExpr::Old(name) => unknown_name(names, stmts, owner, at, name),
+        RawExpr::Ident(name) => unknown_name(setting, name),
+        RawExpr::Old(name) => unknown_name(setting, name),
         RawExpr::Truth(_) => None,
-        RawExpr::Neg(inner) => unknown_in(names, stmts, owner, at, inner),
-        RawExpr::Not(inner) => unknown_in(names, stmts, owner, at, inner),
-        RawExpr::Binary(_, left, right) => match unknown_in(names, stmts, owner, at, left) {
+        RawExpr::Neg(inner) => unknown_in(setting, inner),
+        RawExpr::Not(inner) => unknown_in(setting, inner),
+        RawExpr::Binary(_, left, right) => match unknown_in(setting, left) {
             Some(name) => Some(name),
-            None => unknown_in(names, stmts, owner, at, right),
+            None => unknown_in(setting, right),
         },
     }
 }
 
 /// The first name of a statement that is unknown.
-pub(crate) fn unknown(
-    names: &Names,
-    stmts: &[Stmt],
-    owner: usize,
-    at: usize,
-    form: &Form,
-) -> Option<Name>
-    ensures { result ≡ unknown (setting names.now (map placed stmts.now) owner at) (statement_of form.now) }
+pub(crate) fn unknown(setting: &Setting<'_>, form: &Form) -> Option<Name>
+    ensures { result ≡ unknown setting.now (statement_of form.now) }
 {
     match form {
-        Form::RangeType(_, least, greatest) => unknown_bounds(
-            names, stmts, owner, at, least, greatest,
-        ),
-        Form::WrapType(_, least, greatest) => unknown_bounds(
-            names, stmts, owner, at, least, greatest,
-        ),
-        Form::Variable(_, _, used) => unknown_use(names, stmts, owner, at, used),
-        Form::Pre(expr) => unknown_in(names, stmts, owner, at, expr),
-        Form::Post(expr) => unknown_in(names, stmts, owner, at, expr),
-        Form::Assign(name, expr) => match unknown_name(names, stmts, owner, at, name) {
+        Form::RangeType(_, least, greatest) => unknown_bounds(setting, least, greatest),
+        Form::WrapType(_, least, greatest) => unknown_bounds(setting, least, greatest),
+        Form::Variable(_, _, used) => unknown_use(setting, used),
+        Form::Pre(expr) => unknown_in(setting, expr),
+        Form::Post(expr) => unknown_in(setting, expr),
+        Form::Assign(name, expr) => match unknown_name(setting, name) {
             Some(name) => Some(name),
-            None => unknown_in(names, stmts, owner, at, expr),
+            None => unknown_in(setting, expr),
         },
-        Form::If(expr) => unknown_in(names, stmts, owner, at, expr),
-        Form::ExitWhen(expr) => unknown_in(names, stmts, owner, at, expr),
-        Form::Assert(expr) => unknown_in(names, stmts, owner, at, expr),
+        Form::If(expr) => unknown_in(setting, expr),
+        Form::ExitWhen(expr) => unknown_in(setting, expr),
+        Form::Assert(expr) => unknown_in(setting, expr),
         _ => None,
     }
 }
