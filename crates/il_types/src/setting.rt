@@ -1,4 +1,4 @@
-ghost use Rattle.std.specs.Prelude.{◌≡◌, ◌<◌, map, Some, None, MatchOption, IfSome, length};
+ghost use Rattle.std.specs.Prelude.{◌≡◌, ◌<◌, map, Some, None, MatchOption, IfSome, length, slice_get};
 ghost use Rattle.il_core.specs.Statement.{statement_of, placed};
 ghost use Rattle.il_types.specs.Built.{where_declared};
 ghost use Rattle.il_types.specs.Counted.{AreCounted};
@@ -71,6 +71,28 @@ impl<'a> Setting<'a> {
         }
     }
 
+    /// The same text, at statement `at` of procedure `owner`.
+    pub fn in_procedure(&self, owner: usize, at: usize) -> Setting<'a>
+        ensures { result ≡ setting self.now.table self.now.stmts owner at }
+    {
+        Setting {
+            names: self.names,
+            counts: self.counts,
+            stmts: self.stmts,
+            owner,
+            at,
+        }
+    }
+
+    /// The setting of the statement that declares a name: that statement, in the procedure that it stands in.
+    pub fn where_declared(&self, spot: (usize, usize)) -> Setting<'a>
+        requires { spot.0 < length self.now.stmts }
+        ensures { result ≡ where_declared self.now spot }
+    {
+        let owner = self.counts_before(spot.0).procedures;
+        self.in_procedure(owner, spot.0)
+    }
+
     /// The declaration of a name that is in force here: its statement's number, and which of that statement's names it is; `None` where
     /// there is none. One or two look-ups.
     pub fn in_force(&self, name: &Name) -> Option<(usize, usize)>
@@ -111,6 +133,15 @@ impl<'a> Setting<'a> {
         self.stmts
     }
 
+    /// The statement.
+    pub fn stmt(&self) -> &'a Stmt
+        requires { self.now.at < length self.now.stmts }
+        ensures { slice_get self.now.stmts self.now.at ≡ Some (placed result.now) }
+    {
+        let stmts = self.stmts;
+        &stmts[self.at]
+    }
+
     /// The counts in front of statement `at`. Constant time.
     pub fn counts_before(&self, at: usize) -> Counts
         requires { at < length self.now.stmts }
@@ -118,20 +149,6 @@ impl<'a> Setting<'a> {
     {
         let counts = self.counts;
         counts[at]
-    }
-
-    /// The setting of the statement that declares a name.
-    pub fn where_declared(&self, spot: (usize, usize)) -> Setting<'a>
-        requires { spot.0 < length self.now.stmts }
-        ensures { result ≡ where_declared self.now spot }
-    {
-        Setting {
-            names: self.names,
-            counts: self.counts,
-            stmts: self.stmts,
-            owner: self.counts[spot.0].procedures,
-            at: spot.0,
-        }
     }
 }
 
