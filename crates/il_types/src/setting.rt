@@ -1,4 +1,4 @@
-ghost use Rattle.std.specs.Prelude.{◌≡◌, ◌<◌, map, Some, None, MatchOption, IfSome, length, slice_get};
+ghost use Rattle.std.specs.Prelude.{◌≡◌, ◌<◌, ◌^◌, map, Some, None, MatchOption, IfSome, length, slice_get};
 ghost use Rattle.il_core.specs.Statement.{statement_of, placed};
 ghost use Rattle.il_types.specs.Built.{where_declared};
 ghost use Rattle.il_types.specs.Counted.{AreCounted};
@@ -142,10 +142,11 @@ impl<'a> Setting<'a> {
         &stmts[self.at]
     }
 
-    /// The counts in front of statement `at`. Constant time.
+    /// The counts in front of statement `at`; there are fewer than 2^63 statements. Constant time.
     pub fn counts_before(&self, at: usize) -> Counts
         requires { at < length self.now.stmts }
-        ensures { result ≡ counts_at self.now.stmts at }
+        ensures counts { result ≡ counts_at self.now.stmts at }
+        ensures few { length self.now.stmts < 2 ^ 63 }
     {
         let counts = self.counts;
         counts[at]
