@@ -1,12 +1,10 @@
 -- What the statements of a procedure give, gathered from one statement to the next over its own statements alone.
-use Rattle.std.proofs.Common.{◌≡◌, ℕ, zero, suc, ◌+◌, ◌-◌, ◌<◌, ◌≤◌, ◌∙◌, sym, ap, refl, List, [], ◌∷◌, ◌++◌, length, arith, append-nil, get_or}
+use Rattle.std.proofs.Common.{◌≡◌, ℕ, zero, suc, ◌+◌, ◌-◌, ◌<◌, ◌≤◌, ◌∙◌, sym, ap, refl, List, [], ◌∷◌, ◌++◌, length, arith, append-nil}
 use Rattle.std.specs.Prelude.{◌≢◌, Option, Some, None, map, slice_get}
 use Rattle.std.specs.Option.{option_to_list, option_map}
-use Rattle.std.proofs.lemmas.List.{length-map, map-append}
-use Rattle.il_core.specs.Statement.{Statement, Placed, placed, statement_of}
-use Rattle.il_core.specs.declared.statement.Stmt.{Stmt}
+use Rattle.std.proofs.lemmas.List.{map-append}
+use Rattle.il_core.specs.Statement.{Statement, Placed}
 use Rattle.il_types.specs.Names.{Table, Setting, setting, front_of, counts_at}
-use Rattle.il_types.proofs.Passing.{here}
 use Rattle.il_built.specs.CheckedText.{of_procedure, given}
 use Rattle.il_built.specs.Holding.{setting_at}
 use Rattle.il_built.specs.Span.{AreStatementsOf}
@@ -64,35 +62,31 @@ setting_is : (stmts : List Placed) (table : Table) (owner from to i : ℕ) → t
 setting_is stmts table owner from to i e s le lt =
     ap (λ (t : Table). setting t stmts owner i) e ∙ ap (λ o. setting (front_of stmts).table stmts o i) (sym (s.inside i le lt))
 
--- one statement of the procedure more, read from the text
-pub gathered_step : {A : Type 0} (say : Setting → ℕ → Statement → List A) (stmts : List Stmt) (table : Table) (owner from to i : ℕ) (x : Stmt) (old new now : List A)
-    → table ≡ (front_of (map placed stmts)).table → AreStatementsOf (map placed stmts) owner from to → from ≤ i → i < to → x ≡ get_or stmts i x
-    → old ≡ given_by (λ k s. say (setting_at (map placed stmts) k) k s) (map placed stmts) owner i
-    → now ≡ say (setting table (map placed stmts) owner i) i (statement_of (get_or stmts i x).form) → new ≡ old ++ now
-    → new ≡ given_by (λ k s. say (setting_at (map placed stmts) k) k s) (map placed stmts) owner (i + 1)
-gathered_step {A} say stmts table owner from to i x old new now t s le lt e o n grown =
-    let all = map placed stmts in
-    let give : ℕ → Statement → List A = λ k y. say (setting_at all k) k y in
-    let size : length all ≡ length stmts = length-map stmts placed in
-    let within = s.within in
-    let there = here stmts i x (omega arith) e in
-    let said : now ≡ give i (statement_of x.form) =
-    n ∙ ap (λ (z : Setting). say z i (statement_of (get_or stmts i x).form)) (setting_is all table owner from to i t s le lt)
-    ∙ ap (λ (y : Stmt). give i (statement_of y.form)) (sym e) in
-    grown ∙ ap (λ xs. xs ++ now) o ∙ ap (λ xs. given_by give all owner i ++ xs) said ∙ sym (gathered_more give all owner from to i (placed x) s le lt there)
+-- one statement of the procedure more, read where it stands
+pub gathered_step : {A : Type 0} (say : Setting → ℕ → Statement → List A) (stmts : List Placed) (table : Table) (owner from to i : ℕ) (here : Setting) (x : Placed) (old new now : List A)
+    → here ≡ setting table stmts owner i → slice_get here.stmts here.at ≡ Some x
+    → table ≡ (front_of stmts).table → AreStatementsOf stmts owner from to → from ≤ i → i < to
+    → old ≡ given_by (λ k s. say (setting_at stmts k) k s) stmts owner i
+    → now ≡ say here i x.says → new ≡ old ++ now
+    → new ≡ given_by (λ k s. say (setting_at stmts k) k s) stmts owner (i + 1)
+gathered_step {A} say stmts table owner from to i here x old new now h there t s le lt o n grown =
+    let give : ℕ → Statement → List A = λ k y. say (setting_at stmts k) k y in
+    let said : now ≡ give i x.says = n ∙ ap (λ (z : Setting). say z i x.says) (h ∙ setting_is stmts table owner from to i t s le lt) in
+    let at : slice_get stmts i ≡ Some x = sym (ap (λ (z : Setting). slice_get z.stmts z.at) h) ∙ there in
+    grown ∙ ap (λ xs. xs ++ now) o ∙ ap (λ xs. given_by give stmts owner i ++ xs) said ∙ sym (gathered_more give stmts owner from to i x s le lt at)
 
 -- what is given first
-pub given_first : {A : Type 0} (say : Setting → ℕ → Statement → List A) (stmts : List Stmt) (table : Table) (owner from to i : ℕ) (x : Stmt) (a : A)
-    → table ≡ (front_of (map placed stmts)).table → AreStatementsOf (map placed stmts) owner from to → from ≤ i → i < to → x ≡ get_or stmts i x
-    → given_by (λ k s. say (setting_at (map placed stmts) k) k s) (map placed stmts) owner i ≡ []
-    → a ∷ [] ≡ say (setting table (map placed stmts) owner i) i (statement_of (get_or stmts i x).form)
-    → (rest : List A) × (given (λ k s. say (setting_at (map placed stmts) k) k s) (map placed stmts) owner ≡ a ∷ rest)
-given_first {A} say stmts table owner from to i x a t s le lt e none n =
-    let all = map placed stmts in
-    let give : ℕ → Statement → List A = λ k y. say (setting_at all k) k y in
-    let here = gathered_step say stmts table owner from to i x [] (a ∷ []) (a ∷ []) t s le lt e (sym none) n refl in
-    let more = given_front give all owner (i + 1) to (omega arith) in
-    (more.0, sym (gathered_end give all owner from to s) ∙ more.1 ∙ ap (λ xs. xs ++ more.0) (sym here))
+pub given_first : {A : Type 0} (say : Setting → ℕ → Statement → List A) (stmts : List Placed) (table : Table) (owner from to i : ℕ) (here : Setting) (x : Placed) (a : A)
+    → here ≡ setting table stmts owner i → slice_get here.stmts here.at ≡ Some x
+    → table ≡ (front_of stmts).table → AreStatementsOf stmts owner from to → from ≤ i → i < to
+    → given_by (λ k s. say (setting_at stmts k) k s) stmts owner i ≡ []
+    → a ∷ [] ≡ say here i x.says
+    → (rest : List A) × (given (λ k s. say (setting_at stmts k) k s) stmts owner ≡ a ∷ rest)
+given_first {A} say stmts table owner from to i here x a h there t s le lt none n =
+    let give : ℕ → Statement → List A = λ k y. say (setting_at stmts k) k y in
+    let step = gathered_step say stmts table owner from to i here x [] (a ∷ []) (a ∷ []) h there t s le lt (sym none) n refl in
+    let more = given_front give stmts owner (i + 1) to (omega arith) in
+    (more.0, sym (gathered_end give stmts owner from to s) ∙ more.1 ∙ ap (λ xs. xs ++ more.0) (sym step))
 
 -- a list with one element more
 pub one_more : {A B : Type 0} (f : A → B) (old new : List A) (a : A) (o : Option A) → new ≡ old ++ a ∷ [] → o ≡ Some a

@@ -11,8 +11,8 @@ use il_core::{CheckedText, Form, Link, Name, Stmt, TextEnd, TypeUse};
 use il_types::{all_counts, declare_all, first_refusal};
 use std::alloc::Global;
 
-/// The title of a text in order.
-fn title_of(stmts: &[Stmt]) -> Name
+/// The title of a text in order. Constant time.
+pub fn title_of(stmts: &[Stmt]) -> Name
     requires { IsInOrder (map placed stmts.now) }
     ensures { result ≡ title_of (map placed stmts.now) }
 {
@@ -51,8 +51,8 @@ fn has_wrap(stmts: &[Stmt]) -> bool
     stmts.iter().any(|stmt| wraps(&stmt.form))
 }
 
-/// 2 where a statement has a WRAP, else 1.
-fn profile_of(stmts: &[Stmt]) -> u8
+/// The profile of a text: 2 where a statement has a WRAP, else 1. Linear in the text.
+pub fn profile_of(stmts: &[Stmt]) -> u8
     ensures { result ≡ profile_of (map placed stmts.now) }
 {
     if has_wrap(stmts) { 2 } else { 1 }
@@ -63,11 +63,8 @@ fn profile_of(stmts: &[Stmt]) -> u8
 /// copies of the INOUT ones. Its lines are its PRE, the statements of its body and its ENDPROC, which has the condition of its POST.
 /// Constants, types and enumeration values are replaced by their numbers, and names by the numbers of their places.
 ///
-/// The text is refused exactly where it breaks a rule, with the first rule that is broken and the first statement that breaks it:
-/// a name is declared once (`Code::Twice`, with the name), a name that is used is declared (`Unknown`, with the name), each name
-/// and expression has the type that is needed (`Typing`), the modes allow each use (`Access`), each range holds a value
-/// (`EmptyRange`), no part of an expression has static bounds outside 2^126 on either side of 0 (`Wide`), and there are at most 64
-/// procedures and in each at most 1,000 lines and 64 places (`TooMany`). The other error, `NoMemory`, comes where memory runs out.
+/// The text is refused exactly where `il_types::first_refusal` refuses it, which lists the rules, and with that refusal. The other
+/// error, `NoMemory`, comes where memory runs out.
 ///
 /// The statements of a procedure are those up to the next PROC, so each is gone over a few times, and the time is linear in the text
 /// but for the look-ups by name.

@@ -12,27 +12,24 @@ use crate::lines::lines_of;
 use crate::spans::{Span, span_of};
 use crate::variables::places_of;
 use il_core::{CheckedProc, Form, Link, List, Name, NoMemory, Stmt};
-use il_types::{Counts, Names};
+use il_types::{Counts, Names, Setting};
 use std::alloc::Global;
 
 /// The procedure of this name with these statements. Linear in them but for the look-ups by name.
 fn build_procedure(
     alloc: Global,
-    names: &Names,
-    counts: &[Counts],
-    stmts: &[Stmt],
+    setting: &Setting<'_>,
     links: &[Link],
     span: Span,
     name: Name,
 ) -> Result<CheckedProc, NoMemory>
-    requires counted { AreCounted (map placed stmts.now) counts.now }
-    requires names { names.now ≡ (front_of (map placed stmts.now)).table }
-    requires statements { AreStatementsOf (map placed stmts.now) span.owner span.from span.to }
-    requires checked { IsChecked (procedure_of (map placed stmts.now) links.now span.owner) }
-    ensures { IfOk result (λ p. text_procedure p ≡ record { name = name; body = procedure_of (map placed stmts.now) links.now span.owner }) }
+    requires names { setting.now.table ≡ (front_of setting.now.stmts).table }
+    requires statements { AreStatementsOf setting.now.stmts span.owner span.from span.to }
+    requires checked { IsChecked (procedure_of setting.now.stmts links.now span.owner) }
+    ensures { IfOk result (λ p. text_procedure p ≡ record { name = name; body = procedure_of setting.now.stmts links.now span.owner }) }
 {
-    let places = places_of(alloc, names, counts, stmts, span)?;
-    let lines = lines_of(alloc, names, counts, stmts, links, span)?;
+    let places = places_of(alloc, setting, span)?;
+    let lines = lines_of(alloc, setting, links, span)?;
     Ok(CheckedProc::new(name, places, lines))
 }
 
@@ -63,7 +60,8 @@ pub(crate) fn procedures_of(
     for (i, stmt) in stmts.iter().enumerate() {
         if let Some(name) = named(stmt) {
             let span = span_of(counts, stmts, procs.len() + 1, i);
-            let proc = build_procedure(alloc, names, counts, stmts, links, span, name)?;
+            let setting = Setting::new(names, counts, stmts, span.owner, i);
+            let proc = build_procedure(alloc, &setting, links, span, name)?;
             procs.push(proc)?;
         }
     }

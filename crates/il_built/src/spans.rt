@@ -6,11 +6,14 @@ ghost use Rattle.il_built.specs.Span.{IsOpening, AreStatementsOf};
 use il_core::Stmt;
 use il_types::{Counts, counts_before};
 
-/// The statements of the procedure numbered `owner`: those numbered from `from` on and before `to`.
+/// The statements of a procedure.
 #[derive(Clone, Copy)]
-pub(crate) struct Span {
+pub struct Span {
+    /// The number of the procedure, from 1 on.
     pub owner: usize,
+    /// The number of its first statement, which stands behind its PROC.
     pub from: usize,
+    /// The number behind its last statement: that of the next PROC plus 1, or the length of the text.
     pub to: usize,
 }
 
@@ -30,7 +33,7 @@ fn end_of(counts: &[Counts], stmts: &[Stmt], owner: usize, at: usize) -> usize
 }
 
 /// The statements of the procedure numbered `owner`, whose PROC is statement `at`. Linear in the procedure.
-pub(crate) fn span_of(counts: &[Counts], stmts: &[Stmt], owner: usize, at: usize) -> Span
+pub fn span_of(counts: &[Counts], stmts: &[Stmt], owner: usize, at: usize) -> Span
     requires counted { AreCounted (map placed stmts.now) counts.now }
     requires within { at < length stmts.now }
     requires opening { IsOpening (map placed stmts.now) owner at }

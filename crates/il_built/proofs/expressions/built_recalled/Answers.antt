@@ -1,17 +1,16 @@
-use Rattle.std.proofs.Common.{◌≡◌, ◌≤◌, sym, subst, length, arith}
-use Rattle.std.specs.Prelude.{map}
-use Rattle.std.proofs.lemmas.List.{length-map}
-use Rattle.il_core.specs.Statement.{placed}
+use Rattle.std.proofs.Common.{◌≡◌, ◌≤◌, ◌∙◌, sym, subst, ap, arith}
 use Rattle.il_types.specs.declared.counts.Counts.{Counts}
+use Rattle.il_types.specs.Names.{counts_at}
 use Rattle.il_built.proofs.CountsAtMost.{counts_at_most}
 use Rattle.il_built.proofs.expressions.built_recalled.Goals as goal
 
 pub overflow_add-place : goal.overflow_add-place
 overflow_add-place c =
-    let stmts = map placed c.args.stmts.now in
-    let size : length stmts ≡ length c.args.stmts.now = length-map c.args.stmts.now placed in
-    let v = (counts_at_most stmts c.args.at (omega arith)).variables in
-    let k = (counts_at_most stmts c.args.spot.0 (omega arith)).copies in
-    let a : c.counts_before-variables.result.variables ≤ c.args.at = subst (λ (n : Counts). n.variables ≤ c.args.at) (sym c.counts_before-variables.ensures) v in
-    let b : c.counts_before-copies.result.copies ≤ c.args.spot.0 = subst (λ (n : Counts). n.copies ≤ c.args.spot.0) (sym c.counts_before-copies.ensures) k in
+    let s = c.args.setting.now in
+    let few = c.counts_before-copies.ensures.few in
+    let counts : c.counts_before-variables.result ≡ counts_at s.stmts s.at = c.counts_before-variables.ensures.counts ∙ ap (counts_at s.stmts) c.at.ensures in
+    let v = (counts_at_most s.stmts s.at (omega arith)).variables in
+    let k = (counts_at_most s.stmts c.args.spot.0 (omega arith)).copies in
+    let a : c.counts_before-variables.result.variables ≤ s.at = subst (λ (n : Counts). n.variables ≤ s.at) (sym counts) v in
+    let b : c.counts_before-copies.result.copies ≤ c.args.spot.0 = subst (λ (n : Counts). n.copies ≤ c.args.spot.0) (sym c.counts_before-copies.ensures.counts) k in
     omega arith

@@ -4,7 +4,7 @@ use Rattle.std.proofs.lemmas.List.{length-append, map-append}
 use Rattle.il_core.specs.Checked.{IsChecked}
 use Rattle.il_core.specs.Statement.{Statement, placed}
 use Rattle.il_core.specs.Text.{text_procedure}
-use Rattle.il_types.specs.Names.{counts_at}
+use Rattle.il_types.specs.Names.{Setting, counts_at}
 use Rattle.il_types.proofs.Passing.{here}
 use Rattle.il_built.specs.CheckedText.{named, procedure_of}
 use Rattle.il_built.proofs.ProcedureNames.{name_there, counted_next, one_made, none_made}
@@ -27,8 +27,8 @@ build_procedure-requires-clause-checked c =
     let there = here c.args.stmts.now c.loop-i.i x c.loop-i-test.true c.index-stmts-i.is in
     let n = c.len.ensures ∙ c.loop-i.invariant.number in
     let owner : suc (counts_at stmts c.loop-i.i).procedures ≡ c.span_of-span.result.owner = let o = c.span_of-span.ensures.owner in omega arith in
-    subst (λ o. IsChecked (procedure_of stmts c.args.links.now o)) owner
-    (c.requires.checked.each (counts_at stmts c.loop-i.i).procedures c.in-Some.name (name_there stmts c.loop-i.i (placed x) c.in-Some.name there c.in-Some.ensures))
+    subst (λ (z : Setting). IsChecked (procedure_of z.stmts c.args.links.now c.span_of-span.result.owner)) (sym c.new-setting.ensures)
+    (subst (λ o. IsChecked (procedure_of stmts c.args.links.now o)) owner (c.requires.checked.each (counts_at stmts c.loop-i.i).procedures c.in-Some.name (name_there stmts c.loop-i.i (placed x) c.in-Some.name there c.in-Some.ensures)))
 
 pub loop-i-preserved : goal.loop-i-preserved
 loop-i-preserved c =
@@ -42,11 +42,13 @@ loop-i-preserved c =
       | in-Some+in_ok-proc+in_ok-push w ↦
           let grown = w.procs-is ∙ w.in_ok-push.ensures.ok in
           let is : named (placed x) ≡ w.in-Some.name ∷ [] = ap (λ (s : Statement). named (record { place = x.place; says = s })) w.in-Some.ensures in
+          let body = w.in_ok-proc.ensures
+          ∙ ap (λ (z : Setting). record { name = w.in-Some.name; body = procedure_of z.stmts c.args.links.now w.span_of-span.result.owner }) w.new-setting.ensures in
           let longer : length c.match-named.procs ≡ length c.loop-i.procs + 1 = ap length grown ∙ length-append c.loop-i.procs (w.in_ok-proc.proc ∷ []) in
           record {
             made = ap (map text_procedure) grown ∙ map-append text_procedure c.loop-i.procs (w.in_ok-proc.proc ∷ [])
                 ∙ one_made stmts c.args.links.now c.loop-i.i w.span_of-span.result.owner (placed x) w.in-Some.name (map text_procedure c.loop-i.procs) (text_procedure w.in_ok-proc.proc)
-                there is (w.span_of-span.ensures.owner ∙ ap (λ n. n + 1) (w.len.ensures ∙ was)) c.loop-i.invariant.made w.in_ok-proc.ensures;
+                there is (w.span_of-span.ensures.owner ∙ ap (λ n. n + 1) (w.len.ensures ∙ was)) c.loop-i.invariant.made body;
             number = longer ∙ ap (λ n. n + 1) was ∙ sym (next ∙ ap (λ (ns : List (List ℕ)). (counts_at stmts c.loop-i.i).procedures + length ns) is);
             few = omega arith;
           }

@@ -1,5 +1,5 @@
 use Rattle.std.proofs.Common.{◌≡◌, ◌∙◌, sym, ap, append-nil, arith, ℕ}
-use Rattle.std.specs.Prelude.{map, List}
+use Rattle.std.specs.Prelude.{List}
 use Rattle.std.specs.Option.{option_to_list}
 use Rattle.il_core.specs.Statement.{Statement, placed}
 use Rattle.il_core.specs.declared.line.Place.{Place}
@@ -13,16 +13,17 @@ use Rattle.il_built.proofs.variables.variables_of.Goals.{in-Some+in_ok-push, in_
 
 pub loop-i-init : goal.loop-i-init
 loop-i-init c =
-    let stmts = map placed c.args.stmts.now in
+    let stmts = c.args.setting.now.stmts in
     let give : ℕ → Statement → List Place = λ i x. declared_place (setting_at stmts i) x in
     c.new-places.ensures.items ∙ sym (gathered_start give stmts c.args.span.owner c.args.span.from c.args.span.to c.requires.statements)
 
 pub loop-i-preserved : goal.loop-i-preserved
 loop-i-preserved c =
     let say : Setting → ℕ → Statement → List Place = λ s i x. declared_place s x in
-    gathered_step say c.args.stmts.now c.args.names.now c.args.span.owner c.args.span.from c.args.span.to c.loop-i.i c.index-stmts-i.result
+    let s = c.args.setting.now in
+    gathered_step say s.stmts s.table c.args.span.owner c.args.span.from c.args.span.to c.loop-i.i c.in_procedure-here.result (placed c.stmt.result.now)
     c.loop-i.places.items c.match-declared_place.places.items (option_to_list c.declared_place.result)
-    c.requires.names c.requires.statements c.loop-i.auto.i c.loop-i-test.true c.index-stmts-i.is c.loop-i.invariant c.declared_place.ensures
+    c.in_procedure-here.ensures c.stmt.ensures c.requires.names c.requires.statements c.loop-i.auto.i c.loop-i-test.true c.loop-i.invariant c.declared_place.ensures
     (elim c.match-declared_place.branch [
       | in-Some+in_ok-push w ↦
           let is = w.places-is in
@@ -36,7 +37,7 @@ loop-i-preserved c =
 
 pub returns : goal.returns
 returns c =
-    let stmts = map placed c.args.stmts.now in
+    let stmts = c.args.setting.now.stmts in
     let give : ℕ → Statement → List Place = λ i x. declared_place (setting_at stmts i) x in
     let s = c.requires.statements in
     let ordered = s.ordered in
