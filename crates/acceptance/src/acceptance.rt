@@ -33,8 +33,8 @@ fn checked_tokens(alloc: Global, text_len: usize, tokens: &[Token]) -> Result<Ch
 
 /// The checked text of a text of at most 1,048,576 bytes. `Refused` comes with the first refusal of the text, exactly
 /// where it has one: each code is looked for over the whole text before the next, `Code::NotAscii`, `Lexical`, `Number`,
-/// `Syntax`, `Order`, `Unmatched`, `Twice`, `Unknown`, `Typing`, `Access`, `EmptyRange`, `Wide`, `TooMany`, and stands at
-/// its first place, with the name at fault for `Twice` and `Unknown`. `NoMemory` is the only free answer.
+/// `Syntax`, `Order`, `Unmatched`, and then those of `il_types::first_refusal`, in its order; it stands at its first place.
+/// `NoMemory` is the only free answer.
 #[tactic(auto, unfolding(crate::specs::Acceptance::Accepts, crate::specs::Acceptance::HasRefusal))]
 pub fn accept(alloc: Global, text: &[u8]) -> Result<CheckedText, TextEnd>
     requires { length text.now ≤ 1048576 }

@@ -11,10 +11,10 @@ use std::alloc::Global;
 /// The refusal of a text by the rules of names, types, modes, ranges, bounds and limits, or `None` exactly where it keeps them all.
 /// Each rule is checked over the whole text before the next one: a name is declared once (`Code::Twice`, with the name), a name
 /// that is used is declared (`Unknown`, with the name), each name and expression has the type that is needed (`Typing`), the modes
-/// allow each use (`Access`), each range holds a value (`EmptyRange`), no part of
-/// an expression has static bounds outside 2^126 on either side of 0 (`Wide`), and there are at most 64 procedures and in each at most
-/// 1,000 lines and 64 places (`TooMany`). The place is that of the first statement that breaks the rule. The time is linear in
-/// the text but for the look-ups by name.
+/// allow each use (`Access`), each range holds a value (`EmptyRange`), no part of an expression has static bounds outside 2^126 on
+/// either side of 0 (`Wide`), and there are at most 64 procedures and in each at most 1,000 lines and 64 places (`TooMany`). The place
+/// is that of the first statement that breaks the rule. An error comes where memory runs out. The time is linear in the text but for
+/// the look-ups by name.
 pub fn first_refusal(alloc: Global, stmts: &[Stmt]) -> Result<Option<Refusal>, NoMemory>
     ensures { IfOk result (Answers (map placed stmts.now)) }
 {
