@@ -27,6 +27,8 @@ use Rattle.il_built.proofs.BuiltSorts.{Reads, both_true, recalls_inout}
 use Rattle.il_built.proofs.PlacesHold.{places_hold}
 use Rattle.il_built.proofs.VariablesFirst.{is_behind, owned, all_before}
 use Rattle.typing_laws.specs.Parts.{HasExpression, of_pre, of_post, of_assert, of_assignment, of_if, of_exit}
+use Rattle.typing_laws.specs.Declared.{Says}
+use Rattle.typing_laws.specs.Means.{own_places}
 use Rattle.typing_laws.specs.Laws.{BoundsAreShared}
 use Rattle.typing_laws.proofs.Standing.{placed_at}
 
@@ -112,11 +114,16 @@ reads_places stmts i s order there h =
     subst (Holds (places_of stmts c.procedures) stmts c.procedures) (all_before stmts i s order there h) (places_hold stmts c.procedures) in
     reads_of stmts (places_of stmts c.procedures) i (owned stmts order) holds
 
+-- the places of its procedure are read at a statement that has an expression
+pub reads_at : (stmts : List Placed) (i : ℕ) (x : Statement) (p : Part) (d : Tree) → IsInOrder stmts → Says stmts i x → HasExpression x p d
+    → Reads (setting_at stmts i) (own_places stmts i)
+reads_at stmts i x p d order says has =
+    let s = placed_at stmts i x says in
+    reads_places stmts i s.0 order s.1 (ap (λ y. is_behind (part_of y)) s.2 ∙ behind x p d has)
+
 pub bounds_shared : BoundsAreShared
 bounds_shared stmts order i x p d says has modes b =
-    let s = placed_at stmts i x says in
-    let places = places_of stmts (counts_at stmts i).procedures in
-    let r = reads_places stmts i s.0 order s.1 (ap (λ y. is_behind (part_of y)) s.2 ∙ behind x p d has) in (
-      λ h. built_bounds (setting_at stmts i) places r p d modes b h,
-      λ h. narrow_bounds (setting_at stmts i) places r p d modes h.1 ∙ ap Some h.0,
+    let r = reads_at stmts i x p d order says has in (
+      λ h. built_bounds (setting_at stmts i) (own_places stmts i) r p d modes b h,
+      λ h. narrow_bounds (setting_at stmts i) (own_places stmts i) r p d modes h.1 ∙ ap Some h.0,
     )

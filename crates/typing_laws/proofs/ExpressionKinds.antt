@@ -72,7 +72,7 @@ own_count stmts i name j k mode called type s = by j k s.force s.says
     by a b (own_is p c stands v) says = stands_count stmts p c v.stands ∙ sym (stands_count stmts p i stands)
 
 -- the number of a name among those of its statement
-declared_index : (stmts : List Placed) (i : ℕ) (name : List ℕ) (j k : ℕ) (x : Statement) → InForce stmts i name j k → Says stmts j x → slice_get (declared_names x) k ≡ Some name
+pub declared_index : (stmts : List Placed) (i : ℕ) (name : List ℕ) (j k : ℕ) (x : Statement) → InForce stmts i name j k → Says stmts j x → slice_get (declared_names x) k ≡ Some name
 declared_index stmts i name j k x (earlier_is c d h lt) says =
     ap (λ y. slice_get (declared_names y) d) (one_said stmts c x h.stmt says h.says) ∙ (names_are h.stmt d name h.names).named
 declared_index stmts i name j k x (own_is p c stands v) says =

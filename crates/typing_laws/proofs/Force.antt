@@ -138,7 +138,7 @@ one_shared stmts j k a b name once s t = elim (cases_order j a) [
   | inr (inr gt) ↦ absurd (once j k name (shared a k b name s t (inl gt)))
 ]
 
-one_variable : (stmts : List Placed) (p j a : ℕ) (name : List ℕ) → DeclaredOnce stmts → IsVariable stmts p j name → IsVariable stmts p a name → j ≡ a
+pub one_variable : (stmts : List Placed) (p j a : ℕ) (name : List ℕ) → DeclaredOnce stmts → IsVariable stmts p j name → IsVariable stmts p a name → j ≡ a
 one_variable stmts p j a name once v w = elim (cases_order j a) [
   | inl e ↦ e
   | inr (inl lt) ↦ absurd (once a 0 name (beside_variable p j name w v lt))

@@ -65,7 +65,7 @@ keeps b c h = ap (λ t. unless t c) h
 not_false : {A : Type 0} (b : Bool) → b ≡ true → b ≡ false → A
 not_false b e f = let z : true ≡ false = sym e ∙ f in absurd (cc)
 
-true_unless : (b : Bool) → (b ≡ false → ⊥) → b ≡ true
+pub true_unless : (b : Bool) → (b ≡ false → ⊥) → b ≡ true
 true_unless true h = refl
 true_unless false h = absurd (h refl)
 
@@ -76,7 +76,7 @@ twice_says stmts i k name (beside_shared p j l word is other lt) = (st.variable 
 twice_says stmts i k name (beside_variable p j word is other lt) = (st.variable is.mode word is.type, is.says)
 
 -- the expression of a statement that keeps the rules on types has a kind
-expression_typed : (stmts : List Placed) (i : ℕ) (x : Statement) (part : Part) (e : Tree) → HasExpression x part e → WellTyped stmts i x → (kind : Kind) × Typed stmts i e kind
+pub expression_typed : (stmts : List Placed) (i : ℕ) (x : Statement) (part : Part) (e : Tree) → HasExpression x part e → WellTyped stmts i x → (kind : Kind) × Typed stmts i e kind
 expression_typed stmts i x part e (of_pre d) w = (Truth, w)
 expression_typed stmts i x part e (of_post d) w = (Truth, w)
 expression_typed stmts i x part e (of_assert d) w = (Truth, w)

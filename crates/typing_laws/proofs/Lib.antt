@@ -13,3 +13,5 @@ pub mod Modes
 pub mod RawBounds
 pub mod StaticBounds
 pub mod Keeping
+pub mod Meaning
+pub mod OnePlace

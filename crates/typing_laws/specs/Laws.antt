@@ -1,34 +1,30 @@
 -- The declarations and the kinds that these definitions give are those by which a text is accepted or refused.
 use Rattle.std.specs.Prelude.{◌≡◌, ◌≢◌, ◌↔◌, ℕ, ◌<◌, true, false, List, None, Some, is_some}
 use Rattle.il_core.specs.Bounds.{Bounds, IsNarrow, bounds_of}
+use Rattle.il_core.specs.Expression.{Expression}
 use Rattle.il_core.specs.Statement.{Statement, Placed}
 use Rattle.il_core.specs.Tree.{Tree}
-use Rattle.il_core.specs.declared.line.Place.{Place}
 use Rattle.il_types.specs.declared.kind.Kind.{Kind}
 use Rattle.il_types.specs.declared.kind.Kind.TheVariants.{Truth}
 use Rattle.il_types.specs.declared.modes.Part.{Part}
 use Rattle.il_types.specs.Built.{built}
 use Rattle.il_types.specs.Modes.{keeps_modes, is_allowed}
-use Rattle.il_types.specs.Names.{in_force, counts_at}
+use Rattle.il_types.specs.Names.{in_force}
 use Rattle.il_types.specs.Narrow.{static_bounds}
 use Rattle.il_types.specs.Ranges.{has_range}
 use Rattle.il_types.specs.Rules.{twice_at, Answers}
 use Rattle.il_types.specs.Typing.{kind_of, is_typed}
 use Rattle.il_types.specs.Unknown.{unknown}
 use Rattle.il_syntax.specs.Order.{IsInOrder}
-use Rattle.il_built.specs.CheckedText.{places_of}
 use Rattle.il_built.specs.Holding.{setting_at}
 use Rattle.typing_laws.specs.Accepted.{KeepsRules}
 use Rattle.typing_laws.specs.Allowed.{BreaksModes, IsEmptyRange}
 use Rattle.typing_laws.specs.Bounded.{Bounded, HasSmallParts, AllWellTyped}
 use Rattle.typing_laws.specs.Declared.{Says, DeclaredTwice, DeclaredOnce, InForce, IsKnown}
+use Rattle.typing_laws.specs.Means.{own_places, Means}
 use Rattle.typing_laws.specs.Parts.{HasExpression}
 use Rattle.typing_laws.specs.Typed.{Typed, WellTyped}
 use Rattle.typing_laws.specs.Used.{used_names, IsFirstUnknown, AreKnown}
-
--- the places of the procedure in which statement i stands
-abbrev pub own_places : List Placed → ℕ → List Place
-own_places stmts i = places_of stmts (counts_at stmts i).procedures
 
 -- the first name of statement i that has a declaration before
 pub record IsFirstTwice (stmts : List Placed) (i : ℕ) (name : List ℕ) : Type 0 where
@@ -94,3 +90,8 @@ abbrev pub BoundsAreShared : Type 0
 BoundsAreShared = (stmts : List Placed) → IsInOrder stmts → (i : ℕ) (x : Statement) (part : Part) (e : Tree) → Says stmts i x → HasExpression x part e
     → keeps_modes (setting_at stmts i) part e ≡ true → (b : Bounds)
     → (static_bounds (setting_at stmts i) e ≡ Some b) ↔ ((bounds_of (own_places stmts i) (built (setting_at stmts i) e) ≡ b) × IsNarrow (own_places stmts i) (built (setting_at stmts i) e))
+
+-- what is built of an expression of a text that keeps the rules is what it stands for
+abbrev pub MeaningIsBuilt : Type 0
+MeaningIsBuilt = (stmts : List Placed) → IsInOrder stmts → KeepsRules stmts → (i : ℕ) (x : Statement) (part : Part) (d : Tree) → Says stmts i x → HasExpression x part d
+    → (y : Expression) → (built (setting_at stmts i) d ≡ y) ↔ Means stmts i d y

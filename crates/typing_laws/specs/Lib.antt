@@ -4,5 +4,6 @@ pub mod Typed
 pub mod Used
 pub mod Allowed
 pub mod Bounded
+pub mod Means
 pub mod Accepted
 pub mod Laws

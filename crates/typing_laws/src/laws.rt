@@ -1,5 +1,5 @@
 //! The laws, as contracts of functions that do nothing.
-ghost use Rattle.typing_laws.specs.Laws.{BoundsAreShared, BrokenModesAreRefused, DeclaredTwiceIsRefused, EmptyRangesAreRefused, InForceIsFound, RulesAreKept, StaticBoundsAreFound, TypedIsAccepted, UnknownNamesAreRefused, WellTypedIsAccepted};
+ghost use Rattle.typing_laws.specs.Laws.{BoundsAreShared, BrokenModesAreRefused, DeclaredTwiceIsRefused, EmptyRangesAreRefused, InForceIsFound, MeaningIsBuilt, RulesAreKept, StaticBoundsAreFound, TypedIsAccepted, UnknownNamesAreRefused, WellTypedIsAccepted};
 
 /// In a text in order a statement is refused for a name that is declared twice exactly where one of its names has a declaration
 /// before it, and then with the first such name. This law costs nothing.
@@ -60,4 +60,11 @@ pub fn rules_are_kept()
 /// over the places of its procedure (`Bounds` of `il_core`), and they are the bounds of that. This law costs nothing.
 pub fn bounds_are_shared()
     ensures { BoundsAreShared }
+{}
+
+/// In a text in order that keeps the rules, what is built of an expression is exactly what the expression stands for: constants and
+/// values of enumerations their numbers, variables the place that has their name, and behind OLD the OLD copy of that name. This
+/// law costs nothing.
+pub fn meaning_is_built()
+    ensures { MeaningIsBuilt }
 {}

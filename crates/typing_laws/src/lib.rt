@@ -8,6 +8,6 @@ mod laws;
 
 pub use laws::{
     bounds_are_shared, broken_modes_are_refused, declared_twice_is_refused,
-    empty_ranges_are_refused, in_force_is_found, rules_are_kept, static_bounds_are_found,
-    typed_is_accepted, unknown_names_are_refused, well_typed_is_accepted,
+    empty_ranges_are_refused, in_force_is_found, meaning_is_built, rules_are_kept,
+    static_bounds_are_found, typed_is_accepted, unknown_names_are_refused, well_typed_is_accepted,
 };
