@@ -1,6 +1,6 @@
 -- No rule refuses a text in order exactly where it keeps the rules.
-use Rattle.std.proofs.Common.{◌≡◌, ℕ, ◌∙◌, sym, ap, refl, Bool, true, false, List}
-use Rattle.std.specs.Prelude.{Option, Some, None, is_some, slice_get}
+use Rattle.std.proofs.Common.{◌≡◌, ℕ, ◌+◌, ◌≤◌, arith, if◌then◌else◌, ◌∙◌, sym, ap, refl, Bool, true, false, List}
+use Rattle.std.specs.Prelude.{Option, Some, None, nat_lt, is_some, slice_get}
 use Rattle.std.specs.Option.{option_map, option_and_then}
 use Rattle.il_core.specs.Statement.{Statement, Placed}
 use Rattle.il_core.specs.Statement as st
@@ -8,6 +8,8 @@ use Rattle.il_core.specs.Tree.{Tree}
 use Rattle.il_core.specs.declared.refusal.Code.{Code}
 use Rattle.il_core.specs.declared.refusal.Code.TheVariants as code
 use Rattle.il_syntax.specs.Order.{IsInOrder}
+use Rattle.il_core.specs.declared.refusal.Many.TheVariants as many
+use Rattle.il_types.specs.declared.counts.Counts.{Counts}
 use Rattle.il_types.specs.declared.kind.Kind.{Kind}
 use Rattle.il_types.specs.declared.kind.Kind.TheVariants.{Truth}
 use Rattle.il_types.specs.declared.modes.Part.{Part}
@@ -22,7 +24,7 @@ use Rattle.il_types.specs.Rules.{unless, twice, twice_at, broken, ComesNowhere, 
 use Rattle.il_types.specs.Typing.{is_typed}
 use Rattle.il_types.specs.Unknown.{unknown}
 use Rattle.il_built.specs.Holding.{setting_at}
-use Rattle.typing_laws.specs.Accepted.{KeepsRules}
+use Rattle.typing_laws.specs.Accepted.{IsWithinLimits, KeepsRules}
 use Rattle.typing_laws.specs.Bounded.{AllWellTyped}
 use Rattle.typing_laws.specs.Declared.{Says, DeclaredTwice, shared, beside_shared, beside_variable, DeclaredOnce}
 use Rattle.typing_laws.specs.Laws.{RulesAreKept}
@@ -102,6 +104,30 @@ narrow_all stmts i (st.if_true e) h = h _ e (of_if e)
 narrow_all stmts i (st.exit_when e) h = h _ e (of_exit e)
 narrow_all stmts i _ h = refl
 
+-- counts of which there is not too much
+within : (c : Counts) → too_many c ≡ None → IsWithinLimits c
+within c h = by (nat_lt 64 c.procedures) (nat_lt 1000 c.lines) (nat_lt 64 (c.variables + c.copies)) refl refl refl h
+  where
+    at_most : (n m : ℕ) → nat_lt n m ≡ false → m ≤ n
+    at_most n m e = grind arith
+
+    by : (p l q : Bool) → nat_lt 64 c.procedures ≡ p → nat_lt 1000 c.lines ≡ l → nat_lt 64 (c.variables + c.copies) ≡ q
+        → (if p then Some many.Procedures else (if l then Some many.Lines else (if q then Some many.Places else None))) ≡ None → IsWithinLimits c
+    by true l q e f g h = absurd (cc)
+    by false true q e f g h = absurd (cc)
+    by false false true e f g h = absurd (cc)
+    by false false false e f g h = record { procedures = at_most 64 c.procedures e; lines = at_most 1000 c.lines f; places = at_most 64 (c.variables + c.copies) g }
+
+not_too_many : (c : Counts) → IsWithinLimits c → too_many c ≡ None
+not_too_many c w =
+    ap (λ p. if p then Some many.Procedures else (if nat_lt 1000 c.lines then Some many.Lines else (if nat_lt 64 (c.variables + c.copies) then Some many.Places else None)))
+    (not_above 64 c.procedures w.procedures)
+    ∙ ap (λ l. if l then Some many.Lines else (if nat_lt 64 (c.variables + c.copies) then Some many.Places else None)) (not_above 1000 c.lines w.lines)
+    ∙ ap (λ q. if q then Some many.Places else None) (not_above 64 (c.variables + c.copies) w.places)
+  where
+    not_above : (n m : ℕ) → m ≤ n → nat_lt n m ≡ false
+    not_above n m h = grind arith
+
 keeps_rules : (stmts : List Placed) → IsInOrder stmts → Answers stmts None → KeepsRules stmts
 keeps_rules stmts order a =
     let table = (front_of stmts).table in
@@ -125,7 +151,8 @@ keeps_rules stmts order a =
           let t = expression_typed stmts i x part e has (typed i x says) in
           (bounds_found stmts i e t.0 fair typed t.1).there.0
           (sym (narrow_of stmts i x part e has) ∙ kept (is_narrow (setting_at stmts i) x) code.Wide (nowhere_says (broken rule.Narrow table stmts) stmts i x a.1.1.1.1.1.0 says));
-      limits = λ i x says. unmapped _ (too_many (counts_behind (counts_at stmts i) x)) (nowhere_says (broken rule.Limited table stmts) stmts i x a.1.1.1.1.1.1.0 says);
+      limits = λ i x says.
+          within (counts_behind (counts_at stmts i) x) (unmapped _ (too_many (counts_behind (counts_at stmts i) x)) (nowhere_says (broken rule.Limited table stmts) stmts i x a.1.1.1.1.1.1.0 says));
     }
 
 rules_kept : (stmts : List Placed) → IsInOrder stmts → KeepsRules stmts → Answers stmts None
@@ -149,7 +176,7 @@ rules_kept stmts order k =
                     (λ i x says. keeps (is_narrow (setting_at stmts i) x) code.Wide (narrow_all stmts i x (λ part e has.
                     let t = expression_typed stmts i x part e has (k.typed i x says) in
                     (bounds_found stmts i e t.0 fair k.typed t.1).there.1 (k.narrow i x part e says has)))),
-                (says_nowhere (broken rule.Limited table stmts) stmts (λ i x says. ap (option_map _) (k.limits i x says)), tt),
+                (says_nowhere (broken rule.Limited table stmts) stmts (λ i x says. ap (option_map _) (not_too_many (counts_behind (counts_at stmts i) x) (k.limits i x says))), tt),
               ),
             ),
           ),
