@@ -6,6 +6,7 @@ use Rattle.std.specs.Option.{option_map, option_or}
 use Rattle.il_core.specs.Statement.{Statement, Placed, call}
 use Rattle.il_core.specs.Tree.{Tree, word}
 use Rattle.il_core.specs.declared.refusal.Code.TheVariants as code
+use Rattle.il_types.specs.declared.counts.Counts.{Counts}
 use Rattle.il_types.specs.declared.kind.Kind.{Kind}
 use Rattle.il_types.specs.declared.modes.Part.TheVariants as part
 use Rattle.il_types.specs.declared.rules.Found.{Found}
@@ -82,7 +83,10 @@ call_fault rule.Filled s name arguments = None
 call_fault rule.Narrow s name arguments = unless (is_narrow_call s arguments) code.Wide
 call_fault rule.Limited s name arguments = None
 
--- what statement i breaks of a rule
+-- what a statement breaks of a rule, with the counts before it
+abbrev pub fault_in : Rule → Setting → Counts → Statement → Option Found
+fault_in r s c (call name arguments) = call_fault r s name arguments
+fault_in r s c x = fault r s c x
+
 abbrev pub fault_at : Rule → List Placed → ℕ → Statement → Option Found
-fault_at r stmts i (call name arguments) = call_fault r (setting_at stmts i) name arguments
-fault_at r stmts i x = fault r (setting_at stmts i) (counts_at stmts i) x
+fault_at r stmts i x = fault_in r (setting_at stmts i) (counts_at stmts i) x
