@@ -1,6 +1,6 @@
 -- The parameters of all procedures, gathered from one statement to the next: the latest procedure's stand last.
-use Rattle.std.proofs.Common.{◌≡◌, ◌≢◌, ℕ, zero, suc, ◌+◌, ◌<◌, ◌∙◌, sym, ap, subst, refl, inl, inr, Bool, true, false, get_or, List, [], ◌∷◌, ◌++◌, length, arith, append-nil, if◌then◌else◌}
-use Rattle.std.specs.Prelude.{Some, None, map, slice_get, unwrap_or}
+use Rattle.std.proofs.Common.{◌≡◌, ◌≢◌, ℕ, zero, suc, ◌+◌, ◌<◌, ◌∙◌, sym, ap, subst, refl, inl, inr, Bool, get_or, List, [], ◌∷◌, ◌++◌, length, arith, append-nil, if◌then◌else◌}
+use Rattle.std.specs.Prelude.{Some, map, slice_get, unwrap_or}
 use Rattle.std.proofs.lemmas.Bool.{cases_order}
 use Rattle.il_core.specs.Statement.{Statement, Placed, placed, statement_of, procedure}
 use Rattle.il_core.specs.declared.statement.Stmt.{Stmt}

@@ -12,8 +12,6 @@ fn number_at(setting: &Setting<'_>, at: usize) -> usize
     requires { at < length setting.now.stmts }
     ensures { result ≡ (counts_at setting.now.stmts at).procedures + 1 }
 {
-    // the statements are a slice, so fewer than 2^63
-    let _stmts = setting.stmts();
     setting.counts_before(at).procedures + 1
 }
 

@@ -1,4 +1,4 @@
-ghost use Rattle.std.specs.Prelude.{◌≡◌, ◌+◌, ◌<◌, ◌^◌, is_some, map};
+ghost use Rattle.std.specs.Prelude.{◌≡◌, ◌+◌, ◌<◌, ◌^◌, is_some, map, slice_get};
 ghost use Rattle.std.specs.List.{list_all};
 ghost use Rattle.il_core.specs.Statement.{statement_of};
 ghost use Rattle.il_core.specs.Tree.{tree_of};
@@ -11,7 +11,10 @@ ghost use Rattle.call_rules.specs.Parameters.{AreParameters};
 use crate::callee::{parameters_named, procedure_named};
 use crate::parameters::{Parameter, Parameters};
 use il_core::{Code, Mode, Name, RawExpr};
-use il_types::{Found, Kind, Part, Rule, Setting, keeps_modes, kind_of, kind_of_variable, may_assign, may_hold, mode_of, naming, static_bounds, unknown_in, unknown_name, unless};
+use il_types::{
+    Found, Kind, Part, Rule, Setting, keeps_modes, kind_of, kind_of_variable, may_assign, may_hold,
+    mode_of, naming, static_bounds, unknown_in, unknown_name, unless,
+};
 
 /// Whether a parameter of a mode is assigned back.
 fn is_returned(mode: Mode) -> bool
@@ -104,12 +107,19 @@ fn is_typed_pairing(setting: &Setting<'_>, parameter: Option<Parameter>, argumen
     may_be_given(parameter, kind_of(setting, argument)) && takes_back(setting, parameter, argument)
 }
 
+/// The parameter of argument `at`, where there is one.
+fn parameter_at(parameters: &[Parameter], at: usize) -> Option<Parameter>
+    ensures { result ≡ slice_get parameters.now at }
+{
+    parameters.get(at).copied()
+}
+
 /// Whether all arguments are typed.
 fn are_typed(setting: &Setting<'_>, parameters: &[Parameter], arguments: &[RawExpr]) -> bool
     ensures { result ≡ list_all (is_typed_pairing setting.now) (pairings parameters.now (map tree_of arguments.now)) }
 {
     for (k, argument) in arguments.iter().enumerate() {
-        if !is_typed_pairing(setting, parameters.get(k).copied(), argument) {
+        if !is_typed_pairing(setting, parameter_at(parameters, k), argument) {
             return false;
         }
     }
@@ -127,7 +137,11 @@ fn is_typed_call(
     ensures { result ≡ is_typed_call setting.now name.now (map tree_of arguments.now) }
 {
     procedure_named(setting, name).is_some()
-        && are_typed(setting, parameters_named(setting, parameters, name), arguments)
+        && are_typed(
+            setting,
+            parameters_named(setting, parameters, name),
+            arguments,
+        )
 }
 
 fn may_take_back(setting: &Setting<'_>, name: Option<Name>) -> bool
@@ -156,7 +170,7 @@ fn are_allowed(setting: &Setting<'_>, parameters: &[Parameter], arguments: &[Raw
     ensures { result ≡ list_all (is_allowed_pairing setting.now) (pairings parameters.now (map tree_of arguments.now)) }
 {
     for (k, argument) in arguments.iter().enumerate() {
-        if !is_allowed_pairing(setting, parameters.get(k).copied(), argument) {
+        if !is_allowed_pairing(setting, parameter_at(parameters, k), argument) {
             return false;
         }
     }

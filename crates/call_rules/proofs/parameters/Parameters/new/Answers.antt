@@ -1,13 +1,13 @@
-use Rattle.std.proofs.Common.{◌≡◌, ◌∙◌, sym, ap, subst, [], ◌∷◌, ◌++◌, append-nil, arith, ◌+◌, length, true, false, if◌then◌else◌}
+use Rattle.std.proofs.Common.{◌≡◌, ◌∙◌, sym, ap, subst, [], ◌∷◌, ◌++◌, append-nil, arith, ◌+◌, length, if◌then◌else◌}
 use Rattle.std.specs.Prelude.{map}
 use Rattle.std.proofs.lemmas.List.{length-map, length_push}
 use Rattle.std.specs.Option.{option_to_list}
-use Rattle.il_core.specs.Statement.{Statement, placed, statement_of}
+use Rattle.il_core.specs.Statement.{placed, statement_of}
 use Rattle.il_types.specs.declared.counts.Counts.{Counts}
 use Rattle.il_types.specs.Names.{Setting, counts_at}
-use Rattle.il_types.proofs.Passing.{here, counts_more}
+use Rattle.il_types.proofs.Passing.{here}
 use Rattle.call_rules.specs.Parameters.{declared_parameter, AreParameters}
-use Rattle.call_rules.proofs.Gathering.{AreGathered, give, gathered_start, gathered_more, gathered_opening, gathered_again, gathered_end, procedures_more}
+use Rattle.call_rules.proofs.Gathering.{AreGathered, gathered_start, gathered_more, gathered_opening, gathered_again, gathered_end, procedures_more}
 use Rattle.call_rules.proofs.Here.{setting_here}
 use Rattle.call_rules.proofs.parameters.Parameters.new.Goals as goal
 use Rattle.call_rules.proofs.parameters.Parameters.new.Goals.{in-Some+in_ok-push, in_default, then-is_procedure+in_ok-push-2, else-is_procedure}
