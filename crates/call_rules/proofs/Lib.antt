@@ -1,3 +1,4 @@
 pub mod Here
 pub mod Gathering
 pub mod Paired
+pub mod Joined

@@ -6,3 +6,4 @@ pub mod Clash
 pub mod Limits
 pub mod Fits
 pub mod Rules
+pub mod WorkedRules

@@ -12,6 +12,6 @@ mod rules;
 
 pub use callee::{parameters_named, procedure_named};
 pub use calls::back_to;
-pub use laws::one_answer;
+pub use laws::{one_answer, worked_rules};
 pub use parameters::{Parameter, Parameters};
 pub use rules::first_of_call_rules;
