@@ -136,12 +136,10 @@ fn is_typed_call(
     requires { AreParameters setting.now.stmts parameters.now }
     ensures { result ≡ is_typed_call setting.now name.now (map tree_of arguments.now) }
 {
-    procedure_named(setting, name).is_some()
-        && are_typed(
-            setting,
-            parameters_named(setting, parameters, name),
-            arguments,
-        )
+    match procedure_named(setting, name) {
+        None => false,
+        Some(number) => are_typed(setting, parameters.of(number), arguments),
+    }
 }
 
 fn may_take_back(setting: &Setting<'_>, name: Option<Name>) -> bool
