@@ -1,5 +1,6 @@
 -- What is found at a call, worked out by hand. A procedure `f` has an INOUT, an OUT and an IN parameter with the range 0 to 9, and a procedure
--- `g` a LOCAL variable whose name has 38 bytes; a procedure `p` has some variables and one call.
+-- `g` a LOCAL variable whose name has 38 bytes, a call of its own and a call without arguments; a procedure `p` has some variables, two
+-- calls that fit, and the call.
 use Rattle.std.specs.Prelude.{◌≡◌, ℕ, ◌+◌, pos, true, List, [], ◌∷◌, map, codes, Option, Some, None}
 use Rattle.std.specs.Option.{option_or}
 use Rattle.il_core.specs.Tree.{Tree, number, word, former, constant, two}
@@ -23,14 +24,14 @@ placed_at n (x ∷ xs) = record { place = n; says = x } ∷ placed_at n xs
 abbrev pub digit : TypeUse
 digit = use_.Range (bound.Number (pos 0)) (bound.Number (pos 9))
 
--- statement 24 is the call; of the variables of `p` one is free
+-- statement 26 is the call; of the variables of `p` one is free
 abbrev pub worked_text : List ℕ → Statement → List Placed
 worked_text free x = placed_at 0 (
     title (codes "t") ∷ constant_is (codes "k") (pos 3)
     ∷ procedure (codes "f") ∷ variable InOut (codes "v") digit ∷ variable Output (codes "w") digit ∷ variable Input (codes "n") digit
     ∷ pre (constant true) ∷ post (constant true) ∷ end_procedure
     ∷ procedure (codes "g") ∷ variable Local (codes "a2345678901234567890123456789012345678") digit
-    ∷ pre (constant true) ∷ post (constant true) ∷ end_procedure
+    ∷ pre (constant true) ∷ post (constant true) ∷ call (codes "g") [] ∷ call (codes "f") [] ∷ end_procedure
     ∷ procedure (codes "p") ∷ variable InOut (codes "x") digit ∷ variable Local (codes "y") digit ∷ variable Input (codes "r") digit
     ∷ variable Local (codes "b") use_.Bool ∷ variable Local free digit ∷ pre (constant true) ∷ post (constant true)
     ∷ call (codes "f") (word (codes "x") ∷ word (codes "y") ∷ number 1 ∷ []) ∷ call (codes "f") (word (codes "x") ∷ word (codes "y") ∷ number 1 ∷ [])
@@ -43,7 +44,7 @@ first_found (o ∷ os) = option_or o (first_found os)
 
 -- what the first rule that finds something at the call finds
 abbrev pub found_with : List ℕ → Statement → Option Found
-found_with free x = let stmts = worked_text free x in first_found (map (λ pass. at_stmt pass stmts 24) (passes stmts []))
+found_with free x = let stmts = worked_text free x in first_found (map (λ pass. at_stmt pass stmts 26) (passes stmts []))
 
 abbrev pub found : Statement → Option Found
 found x = found_with (codes "z") x
@@ -51,9 +52,9 @@ found x = found_with (codes "z") x
 abbrev pub of_f : List Tree → Statement
 of_f arguments = call (codes "f") arguments
 
--- the counts behind the call; each call of `f` becomes eight lines and brings four places
+-- the counts behind the call; each call of `f` counts as eight lines and four places
 abbrev pub counted : Statement → Counts
-counted x = let stmts = worked_text (codes "z") x in counts_with_calls stmts [] 24 x
+counted x = let stmts = worked_text (codes "z") x in counts_with_calls stmts [] 26 x
 
 pub record WorkedRules : Type 0 where
   pub fits : found (of_f (word (codes "x") ∷ word (codes "y") ∷ word (codes "k") ∷ [])) ≡ None
@@ -79,3 +80,5 @@ pub record WorkedRules : Type 0 where
   pub places_of_calls : (counted (of_f [])).variables + (counted (of_f [])).copies ≡ 18
   pub line_of_own_call : (counted (call (codes "p") [])).lines ≡ 18
   pub places_of_own_call : (counted (call (codes "p") [])).variables + (counted (call (codes "p") [])).copies ≡ 14
+  pub lines_of_nested_calls : (counted (call (codes "g") [])).lines ≡ 29
+  pub places_of_nested_calls : (counted (call (codes "g") [])).variables + (counted (call (codes "g") [])).copies ≡ 19

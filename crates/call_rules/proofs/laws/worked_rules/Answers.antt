@@ -28,4 +28,6 @@ returns c = record {
   places_of_calls = refl;
   line_of_own_call = refl;
   places_of_own_call = refl;
+  lines_of_nested_calls = refl;
+  places_of_nested_calls = refl;
 }
