@@ -1,6 +1,6 @@
 -- Trees as lists of cells, a tree behind its parts, so that trees may stand in the value of a struct.
 use Rattle.std.specs.Prelude.{◌≡◌, ℕ, Bool, List, [], ◌∷◌, refl}
-use Rattle.std.specs.Coded.{Coded, code_by, codes}
+use Rattle.std.specs.Coded.{Coded, code_by, coded_list}
 use Rattle.std.proofs.Common.{◌∙◌, ap}
 use Rattle.il_core.specs.Tree.{Tree, number, word, former, constant, minus, opposite, two}
 use Rattle.il_core.specs.declared.operator.BinOp.{BinOp}
@@ -60,5 +60,6 @@ given_back (two o a b) rest trees = given_back a (cells b (of_two o ∷ rest)) t
 pub cells_give : (t : Tree) → tree_from (cells t []) ≡ t
 cells_give t = ap first_tree (given_back t [] [])
 
-pub tree_code : Coded Tree
-tree_code = code_by (List Cell) (Prim.hlevel codes) (λ t. cells t []) tree_from cells_give
+-- the code of trees, from that of cells
+pub tree_code : Coded Cell → Coded Tree
+tree_code c = code_by (List Cell) (coded_list c) (λ t. cells t []) tree_from cells_give

@@ -1,4 +1,4 @@
-ghost use Rattle.std.specs.Prelude.{◌≡◌, ◌<◌, map, length};
+ghost use Rattle.std.specs.Prelude.{◌≡◌, ◌<◌};
 ghost use Rattle.il_core.specs.Statement.{statement_of};
 ghost use Rattle.il_core.specs.Tree.{tree_of};
 ghost use Rattle.il_types.specs.Narrow.{if_small, variable_bounds, value_bounds, named_bounds, recalled_value, recalled_bounds, bounds_of_two, static_bounds, is_narrow};

@@ -30,7 +30,7 @@ impl<'a> Model for Setting<'a> {
 
     ghost Value = { Setting };
 
-    ghost coded = { Prim.hlevel (codes, tree_code) };
+    ghost coded = { Prim.hlevel (codes, tree_code (Prim.hlevel codes)) };
 
     ghost view = { λ s. record { table = s.names.now; stmts = map placed s.stmts.now; owner = s.owner; at = s.at } };
 
