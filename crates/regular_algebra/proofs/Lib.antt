@@ -4,9 +4,11 @@ pub mod Tables
 pub mod Passes
 pub mod Theorem
 pub mod Starless
-pub mod Marks
+pub mod Rows
 pub mod Cells
 pub mod Turns
+pub mod Leaving
+pub mod Listed
 pub mod Sizes
 pub mod Planned
 pub mod Uses

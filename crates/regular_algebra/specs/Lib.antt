@@ -2,6 +2,7 @@ pub mod Paths
 pub mod Words
 pub mod Rule
 pub mod Answers
+pub mod Rows
 pub mod Cells
 pub mod Relations
 pub mod Run

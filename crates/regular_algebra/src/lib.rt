@@ -15,6 +15,7 @@ mod board;
 mod elimination;
 mod planning;
 mod relation;
+mod row;
 mod steps;
 
 pub use algebra::Algebra;

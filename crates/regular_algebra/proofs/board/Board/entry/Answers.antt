@@ -1,33 +1,30 @@
-use Rattle.std.proofs.Common.{◌≡◌, sym, ap, ◌∙◌, ◌*◌, ◌+◌, Bool, true, Some, None, length, get_or, arith}
-use Rattle.std.proofs.lemmas.Nat.{row_fits}
-use Rattle.regular_algebra.specs.Cells.{table_of, told, cells_of}
-use Rattle.regular_algebra.proofs.Cells.{cell-read}
-use Rattle.regular_algebra.proofs.Marks.{length-cells, cells-read}
+use Rattle.std.proofs.Common.{◌≡◌, sym, ap, ◌∙◌, ◌<◌, inl, inr, List, [], length, arith}
+use Rattle.std.proofs.lemmas.List.{get_or_read}
+use Rattle.regular_algebra.specs.Rows.{value_to}
+use Rattle.regular_algebra.specs.Cells.{table_of}
+use Rattle.regular_algebra.specs.declared.row.Item.{Item}
+use Rattle.regular_algebra.proofs.Cells.{cell-live, cell-gone, live-below, not-live, not-gone}
 use Rattle.regular_algebra.proofs.board.Board.entry.Goals as goal
+use Rattle.regular_algebra.proofs.board.Board.entry.Goals.{else-is_live-via-then-is_live+else-is_live-2, else-is_live-via-else-is_live}
 
-pub returns-then-index : goal.returns-then-index
+pub returns-then-is_live-2 : goal.returns-then-is_live-2
 unfolding table_of
-returns-then-index c =
+returns-then-is_live-2 c =
     let b = c.args.self.now in
-    let fits = row_fits c.args.i b.count b.count b.count c.requires.row (omega arith) in
-    let marks : length b.marks.items ≡ b.count * b.count = omega (arith, b.marked, b.marks.ok) in
-    let numbers : length b.numbers.items ≡ b.count * b.count = omega (arith, b.numbered, b.numbers.ok) in
-    let size = length-cells b.marks.items b.numbers.items (marks ∙ sym numbers) ∙ numbers in
-    let v = c.index-then-index.result.now in
-    let stands = cells-read b.marks.items b.numbers.items (c.args.i * b.count + c.args.j) c.index.result.now v (Some v) (omega (arith, fits, marks, c.requires.column)) (omega (arith, fits, numbers, c.requires.column)) in
-    let read : Some v ≡ told (get_or b.marks.items (c.args.i * b.count + c.args.j) c.index.result.now) (get_or b.numbers.items (c.args.i * b.count + c.args.j) v) =
-    ap (told true) c.index-then-index.ensures ∙ ap (λ (m : Bool). told m (get_or b.numbers.items (c.args.i * b.count + c.args.j) v)) (sym c.if-index.true ∙ c.index.ensures) in
-    cell-read b.count (cells_of b.marks.items b.numbers.items) c.args.i c.args.j (Some v) c.requires.row c.requires.column size (read ∙ sym stands)
+    let row = not-gone _ (sym c.is_live.ensures ∙ c.if-is_live.true) in
+    let column = not-gone _ (sym c.is_live-then-is_live.ensures ∙ c.if-is_live-2.true) in
+    let below = live-below b.gone.items c.args.i row in
+    let within : c.args.i < length b.rows.items = omega (arith, below, b.has_marks, b.gone.ok, b.has_rows, b.rows.ok) in
+    c.value_to.ensures ∙ ap (λ (r : List Item). value_to r c.args.j) (get_or_read b.rows.items c.args.i c.index.result.now within c.index.ensures [])
+    ∙ sym (cell-live b.rows.items b.gone.items c.args.i c.args.j row column)
 
-pub returns-else-index : goal.returns-else-index
+pub returns-else-is_live : goal.returns-else-is_live
 unfolding table_of
-returns-else-index c =
+returns-else-is_live c =
     let b = c.args.self.now in
-    let fits = row_fits c.args.i b.count b.count b.count c.requires.row (omega arith) in
-    let marks : length b.marks.items ≡ b.count * b.count = omega (arith, b.marked, b.marks.ok) in
-    let numbers : length b.numbers.items ≡ b.count * b.count = omega (arith, b.numbered, b.numbers.ok) in
-    let size = length-cells b.marks.items b.numbers.items (marks ∙ sym numbers) ∙ numbers in
-    let stands = cells-read b.marks.items b.numbers.items (c.args.i * b.count + c.args.j) c.index.result.now 0 None (omega (arith, fits, marks, c.requires.column)) (omega (arith, fits, numbers, c.requires.column)) in
-    let read : None ≡ told (get_or b.marks.items (c.args.i * b.count + c.args.j) c.index.result.now) (get_or b.numbers.items (c.args.i * b.count + c.args.j) 0) =
-    ap (λ (m : Bool). told m (get_or b.numbers.items (c.args.i * b.count + c.args.j) 0)) (sym c.if-index.false ∙ c.index.ensures) in
-    cell-read b.count (cells_of b.marks.items b.numbers.items) c.args.i c.args.j None c.requires.row c.requires.column size (read ∙ sym stands)
+    elim c.else-is_live.branch [
+      | else-is_live-via-then-is_live+else-is_live-2 w ↦
+          sym (cell-gone b.rows.items b.gone.items c.args.i c.args.j (inr (not-live _ (sym w.is_live-then-is_live.ensures ∙ w.if-is_live-2.false))))
+      | else-is_live-via-else-is_live w ↦
+          sym (cell-gone b.rows.items b.gone.items c.args.i c.args.j (inl (not-live _ (sym c.is_live.ensures ∙ w.if-is_live.false))))
+    ]

@@ -1,4 +1,5 @@
 use Rattle.std.proofs.Common.{◌≡◌, ◌⊎◌, inl, inr}
+use Rattle.regular_algebra.proofs.Sizes.{board-stands}
 use Rattle.regular_algebra.proofs.Turns.{turn-own, turn-none, turn-none_right, turn-some}
 use Rattle.regular_algebra.proofs.board.Board.turn.Goals as goal
 
@@ -16,3 +17,9 @@ returns-in_default-entry-clause-table c = turn-none_right _ _ _ _ _ _ c.in_defau
 pub returns-clause-table : goal.returns-clause-table
 returns-clause-table c =
     turn-some _ _ _ _ _ _ _ _ _ c.if-i-p.false c.if-j-p.false c.in-Some.ensures c.in-Some-entry.ensures c.in_ok-multiply_through.ensures.table
+
+pub multiply_through-requires-clause-row : goal.multiply_through-requires-clause-row
+multiply_through-requires-clause-row c = (board-stands _ _ _ _ c.in-Some.ensures).row
+
+pub multiply_through-requires-clause-column : goal.multiply_through-requires-clause-column
+multiply_through-requires-clause-column c = (board-stands _ _ _ _ c.in-Some-entry.ensures).column
