@@ -120,9 +120,8 @@ fn variables(alloc: Global, places: &[Place]) -> Result<Vec<usize>, NoMemory>
 /// The places are those of the graph's nodes. The order has each reachable line but line 0 and the last exactly once; it
 /// changes no fact, only the time that is taken.
 ///
-/// The walks are summed up by elimination (Carré, Graphs and Networks, 1979). Its plan is made once: that takes a square
-/// of cells over the lines and, for each line, time linear in the lines for each line that then enters it. The plan's
-/// steps are then taken once for every nine variables.
+/// The walks are summed up by elimination (Carré, Graphs and Networks, 1979). Its plan is made once, in rows that hold only
+/// their entries. The plan's steps are then taken once for every nine variables.
 pub fn data_use(
     alloc: Global,
     graph: &FlowGraph,

@@ -1,14 +1,14 @@
 -- The table of a board: how it changes where a row is written, where a node is noted, and where a node goes.
-use Rattle.std.proofs.Common.{◌≡◌, refl, sym, ap, ◌∙◌, subst, ℕ, zero, suc, ◌+◌, ◌<◌, ◌≤◌, ◌⊎◌, ◌&&◌, ◌||◌, inl, inr, eqb, ltb, cond, not, Bool, true, false, Option, Some, None, Result, Ok, Err, OnOk, OnErr, List, [], ◌∷◌, ◌++◌, length, get_or, set, replicate, arith, get_or-set_same, get_or-set_other}
-use Rattle.std.proofs.lemmas.Bool.{cond-true, cond-false, cases_lt, cases_eq, or_left, or_right, or_from, eq-eqb}
+use Rattle.std.proofs.Common.{◌≡◌, refl, sym, ap, ◌∙◌, subst, ℕ, zero, suc, ◌+◌, ◌<◌, ◌≤◌, ◌⊎◌, ◌&&◌, ◌||◌, inl, inr, eqb, cond, not, Bool, true, false, Option, Some, None, Result, Ok, Err, OnOk, OnErr, List, [], ◌∷◌, ◌++◌, length, get_or, set, replicate, arith, get_or-set_same, get_or-set_other}
+use Rattle.std.proofs.lemmas.Bool.{cond-true, cond-false, cases_eq, or_left, or_right, or_from, eq-eqb}
 use Rattle.std.proofs.lemmas.Bool.Decides.{eqb_tells, nat_tests}
-use Rattle.std.proofs.lemmas.List.{get_or_past, get_or-replicate, length-replicate}
+use Rattle.std.proofs.lemmas.List.{get_or_past, get_or-replicate}
 use Rattle.regular_algebra.specs.Rule.{Table, blank, put, cleared}
 use Rattle.regular_algebra.specs.Rows.{value_to, SetsValue, has_node, IsNoted}
 use Rattle.regular_algebra.specs.Cells.{cell, is_gone}
 use Rattle.regular_algebra.specs.declared.row.Item.{Item}
 use Rattle.regular_algebra.specs.declared.steps.Step.{Step}
-use Rattle.regular_algebra.proofs.Tables.{both_tell, either_tells}
+use Rattle.regular_algebra.proofs.Tables.{both_tell}
 
 -- a list of empty rows has empty rows alone
 pub empty_row : {X : Type 0} (count k : ℕ) → ◌≡◌ {A = List X} (get_or (replicate count []) k []) []
@@ -232,32 +232,6 @@ pub noted-either : {X E : Type 0} (rows : List (List Item)) (columns : List (Lis
     → OnOk r (new ≡ old ++ i ∷ []) → OnErr r (new ≡ old) → IsNoted rows columns → IsNoted rows (set columns j new)
 noted-either rows columns j i old new (Ok x) l e ok err h = noted-grown rows columns j i new l (ok ∙ ap (λ (x : List ℕ). x ++ i ∷ []) e) h
 noted-either rows columns j i old new (Err x) l e ok err h = noted-same_column rows columns j new l (err ∙ e) h
-
--- where it is noted that i leads to j, a value may be set there
-pub noted-set : (rows : List (List Item)) (columns : List (List ℕ)) (i j v : ℕ) (r : List Item) → i < length rows → SetsValue (get_or rows i []) r j v
-    → has_node (get_or columns j []) i ≡ true → IsNoted rows columns → IsNoted (set rows i r) columns
-noted-set rows columns i j v r l s n h a b w e =
-    elim (cases_eq a i) [
-      | inl q ↦
-          let found : value_to r b ≡ Some w = ap (λ (x : List Item). value_to x b) (sym (get_or-set_same rows i r [] l)) ∙ ap (λ k. value_to (get_or (set rows i r) k []) b) (sym q) ∙ e in
-          elim (eqb_tells j b) [
-            | inl t ↦ ap (has_node (get_or columns b [])) q ∙ ap (λ k. has_node (get_or columns k []) i) (sym t.1) ∙ n
-            | inr t ↦
-                ap (has_node (get_or columns b [])) q ∙ h i b w (sym (cond-false (eqb j b) (Some v) (value_to (get_or rows i []) b) t.0) ∙ sym (s b) ∙ found)
-          ]
-      | inr m ↦ h a b w (ap (λ (x : List Item). value_to x b) (sym (get_or-set_other rows i a r [] m)) ∙ e)
-    ]
-
--- what is noted stays noted where a row stays
-pub noted-same_row : (rows : List (List Item)) (columns : List (List ℕ)) (i : ℕ) (r : List Item) → i < length rows → r ≡ get_or rows i []
-    → IsNoted rows columns → IsNoted (set rows i r) columns
-noted-same_row rows columns i r l s h a b w e =
-    elim (cases_eq a i) [
-      | inl q ↦
-          h a b w (ap (λ k. value_to (get_or rows k []) b) q ∙ ap (λ (x : List Item). value_to x b) (sym s ∙ sym (get_or-set_same rows i r [] l))
-          ∙ ap (λ k. value_to (get_or (set rows i r) k []) b) (sym q) ∙ e)
-      | inr m ↦ h a b w (ap (λ (x : List Item). value_to x b) (sym (get_or-set_other rows i a r [] m)) ∙ e)
-    ]
 
 -- what is not gone is live, and the other way round
 pub not-gone : (g : Bool) → not g ≡ true → g ≡ false

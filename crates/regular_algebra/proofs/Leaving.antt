@@ -1,6 +1,6 @@
 -- The nodes of a row that are not gone, and the nodes of a column in their order.
-use Rattle.std.proofs.Common.{◌≡◌, refl, sym, ap, ◌∙◌, subst, ℕ, zero, suc, ◌+◌, ◌<◌, ◌≤◌, ◌⊎◌, ◌||◌, inl, inr, eqb, cond, not, Bool, true, false, Option, Some, None, List, [], ◌∷◌, ◌++◌, length, take, get_or, arith, add-one, append-nil}
-use Rattle.std.proofs.lemmas.Bool.{cond-true, cond-false}
+use Rattle.std.proofs.Common.{◌≡◌, refl, sym, ap, ◌∙◌, subst, ℕ, zero, suc, ◌+◌, ◌<◌, ◌≤◌, ◌||◌, inl, inr, eqb, cond, not, Bool, true, false, Some, List, [], ◌∷◌, ◌++◌, length, take, arith, add-one, append-nil}
+use Rattle.std.proofs.lemmas.Bool.{cond-false}
 use Rattle.std.proofs.lemmas.Bool.Decides.{eqb_tells}
 use Rattle.std.specs.List.{Contains}
 use Rattle.regular_algebra.specs.Answers.{IsAmong}

@@ -1,6 +1,6 @@
 -- Turns through a node over the nodes that are listed alone make what turns over all nodes make.
 use Rattle.std.proofs.Common.{◌≡◌, refl, sym, ap, ◌∙◌, subst, ℕ, zero, suc, ◌+◌, ◌<◌, ◌≤◌, ◌⊎◌, ◌||◌, inl, inr, eqb, Option, Some, None, List, [], ◌∷◌, length, take, get_or, fold, arith}
-use Rattle.std.proofs.lemmas.Bool.{cond-true, cond-false, cases_eq}
+use Rattle.std.proofs.lemmas.Bool.{cond-false, cases_eq}
 use Rattle.std.proofs.lemmas.List.{get_or_default}
 use Rattle.std.proofs.lemmas.List.Kept.{AllPairs-from_increasing}
 use Rattle.std.proofs.lemmas.List.Sums.{fold_more}

@@ -1,8 +1,8 @@
 -- Boards of one size, and what an entry of a board says of its nodes.
-use Rattle.std.proofs.Common.{◌≡◌, refl, sym, ap, ◌∙◌, ℕ, ◌*◌, ◌≤◌, ◌⊎◌, inl, inr, true, Option, Some, None, [], length, get_or, arith}
+use Rattle.std.proofs.Common.{◌≡◌, refl, sym, ap, ◌∙◌, ℕ, ◌≤◌, ◌⊎◌, inl, inr, true, Some, None, [], length, get_or, arith}
 use Rattle.regular_algebra.specs.Rule.{Table, made}
 use Rattle.regular_algebra.specs.Rows.{has_node}
-use Rattle.regular_algebra.specs.Cells.{table_of, is_gone, SameSize}
+use Rattle.regular_algebra.specs.Cells.{table_of, SameSize}
 use Rattle.regular_algebra.specs.declared.board.Board.{Board}
 use Rattle.regular_algebra.specs.declared.steps.Step.{Step}
 use Rattle.regular_algebra.proofs.Cells.{Stands, cell-some, cell-gone, gone-past}

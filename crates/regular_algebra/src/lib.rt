@@ -5,9 +5,9 @@
 //! answer are exactly the paths from the start to its target. `evaluate` runs a plan over the values of any `Algebra`,
 //! and so joins exactly what some path joins; `BitRelation` is the algebra of relations on few points.
 //!
-//! A plan takes a square of cells over the nodes, which is given up once the plan is made, and for each node that is
-//! eliminated time linear in the nodes for each node that enters it. `evaluate` keeps a value until its last use;
-//! `eliminate` makes a plan and evaluates it at once.
+//! A plan is made in rows that hold only their entries, which are given up once it is made: it takes memory for each entry
+//! that is made on the way, and time for each product and for finding its entries by halving. `evaluate` keeps a value until
+//! its last use; `eliminate` makes a plan and evaluates it at once.
 #![tactic(auto)]
 
 mod algebra;

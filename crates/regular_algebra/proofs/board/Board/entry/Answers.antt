@@ -1,4 +1,4 @@
-use Rattle.std.proofs.Common.{◌≡◌, sym, ap, ◌∙◌, ◌<◌, inl, inr, List, [], length, arith}
+use Rattle.std.proofs.Common.{sym, ap, ◌∙◌, ◌<◌, inl, inr, List, [], length, arith}
 use Rattle.std.proofs.lemmas.List.{get_or_read}
 use Rattle.regular_algebra.specs.Rows.{value_to}
 use Rattle.regular_algebra.specs.Cells.{table_of}

@@ -1,7 +1,7 @@
-use Rattle.std.proofs.Common.{◌≡◌, sym, ap, ◌∙◌, ◌<◌, ◌≤◌, ◌++◌, ◌∷◌, ℕ, List, [], length, take, get_or, subst, not, arith}
+use Rattle.std.proofs.Common.{sym, ap, ◌∙◌, ◌<◌, ◌≤◌, ◌++◌, ◌∷◌, ℕ, List, [], length, take, get_or, subst, not, arith}
 use Rattle.std.proofs.lemmas.List.{get_or_read, take_all}
 use Rattle.regular_algebra.specs.Rows.{IsRising, node_at}
-use Rattle.regular_algebra.specs.Cells.{table_of, is_gone, IsListed, RiseFrom}
+use Rattle.regular_algebra.specs.Cells.{is_gone}
 use Rattle.regular_algebra.specs.declared.row.Item.{Item}
 use Rattle.regular_algebra.proofs.Sizes.{board-stands}
 use Rattle.regular_algebra.proofs.Leaving.{live_nodes, live-more, live-passed, live-rise, live-all}

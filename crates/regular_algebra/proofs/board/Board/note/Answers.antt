@@ -1,4 +1,4 @@
-use Rattle.std.proofs.Common.{◌≡◌, refl, ap, ◌∙◌, ◌<◌, ◌++◌, ◌∷◌, List, ℕ, [], length, arith}
+use Rattle.std.proofs.Common.{refl, ap, ◌∙◌, ◌<◌, ◌++◌, ◌∷◌, List, ℕ, [], length, arith}
 use Rattle.std.proofs.lemmas.List.{get_or_read}
 use Rattle.regular_algebra.specs.Cells.{table_of}
 use Rattle.regular_algebra.proofs.Cells.{noted-pushed, noted-either}

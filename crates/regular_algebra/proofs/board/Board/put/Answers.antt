@@ -1,4 +1,4 @@
-use Rattle.std.proofs.Common.{◌≡◌, sym, ap, ◌∙◌, ◌<◌, List, [], length, arith, subst}
+use Rattle.std.proofs.Common.{◌<◌, List, [], length, arith, subst}
 use Rattle.std.proofs.lemmas.List.{get_or_read}
 use Rattle.regular_algebra.specs.Rows.{SetsValue}
 use Rattle.regular_algebra.specs.Cells.{table_of}

@@ -1,4 +1,4 @@
-use Rattle.std.proofs.Common.{◌∙◌, ap, inr, fold, take}
+use Rattle.std.proofs.Common.{◌∙◌, ap, inr, fold}
 use Rattle.std.proofs.lemmas.List.{take_all}
 use Rattle.regular_algebra.specs.Cells.{table_of}
 use Rattle.regular_algebra.specs.Rule.{Table, turn}

@@ -1,9 +1,9 @@
-use Rattle.std.proofs.Common.{◌≡◌, ◌∙◌, ap, inl, fold, take, sym, subst, rules}
+use Rattle.std.proofs.Common.{◌∙◌, ap, inl, fold}
 use Rattle.std.proofs.lemmas.List.{take_all}
 use Rattle.regular_algebra.specs.Cells.{table_of}
 use Rattle.regular_algebra.specs.Rule.{Table, row}
 use Rattle.regular_algebra.proofs.Sizes.{size-then, board-beside}
-use Rattle.regular_algebra.proofs.Listed.{keeps-then, keeps-row, rows-listed, row-sized, rows-more_listed}
+use Rattle.regular_algebra.proofs.Listed.{keeps-then, rows-listed, row-sized, rows-more_listed}
 use Rattle.regular_algebra.proofs.board.Board.turn_rows.Goals as goal
 
 pub loop-i-preserved : goal.loop-i-preserved
