@@ -1,0 +1,9 @@
+pub mod Passed
+pub mod Callees
+pub mod Widths
+pub mod Variables
+pub mod Measured
+pub mod Extents
+pub mod Excess
+pub mod States
+pub mod Small
