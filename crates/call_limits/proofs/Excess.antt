@@ -1,6 +1,6 @@
 -- What there is too much of, told by the counts and the extent, and what they come to where nothing is.
-use Rattle.std.proofs.Common.{◌≡◌, ℕ, zero, suc, ◌+◌, ◌-◌, ◌<◌, ◌≤◌, ◌∙◌, sym, ap, subst, refl, cond, Bool, true, false, List, [], ◌∷◌, ◌++◌, length, arith, nat_lt}
-use Rattle.std.specs.Prelude.{Option, Some, None, map, count_by, sum_by}
+use Rattle.std.proofs.Common.{◌≡◌, ℕ, ◌+◌, ◌≤◌, ◌∙◌, sym, ap, refl, cond, Bool, true, false, List, [], length, arith, nat_lt}
+use Rattle.std.specs.Prelude.{Option, Some, None, sum_by}
 use Rattle.std.specs.Option.{option_map}
 use Rattle.std.proofs.lemmas.List.Sums.{count_by-le-length}
 use Rattle.std.proofs.lemmas.Option.{none-some}
@@ -20,7 +20,6 @@ use Rattle.il_called.specs.Expansion.{is_returned, brings}
 use Rattle.call_rules.specs.CalledText.{lines_before, callees_before}
 use Rattle.call_rules.specs.Limits.{lines_in, widths_of, excess_at}
 use Rattle.call_limits.specs.declared.extent.Extent.{Extent}
-use Rattle.call_limits.specs.declared.measures.Measures.{Measures}
 use Rattle.call_limits.specs.Measures.{IsSmall, IsWithin, measured, expanded, excess}
 use Rattle.call_limits.proofs.Measured.{IsExtent}
 

@@ -1,15 +1,13 @@
 -- The extent of a procedure with one statement more.
-use Rattle.std.proofs.Common.{◌≡◌, ◌≢◌, ℕ, zero, suc, ◌+◌, ◌-◌, ◌<◌, ◌≤◌, ◌∙◌, sym, ap, subst, refl, inl, inr, cond, Bool, true, false, List, [], ◌∷◌, ◌++◌, length, take, arith, add-zero}
+use Rattle.std.proofs.Common.{◌≡◌, ℕ, ◌+◌, ◌-◌, ◌<◌, ◌≤◌, ◌∙◌, sym, ap, subst, refl, cond, false, List, [], ◌∷◌, ◌++◌, length, add-zero}
 use Rattle.std.specs.Prelude.{Option, Some, None, map, count_by, sum_by, slice_get, unwrap_or}
 use Rattle.std.specs.Option.{option_and_then, option_map}
 use Rattle.std.proofs.lemmas.Bool.{false≢true}
 use Rattle.std.proofs.lemmas.Option.{slice_get-map, slice_get_past}
 use Rattle.std.proofs.lemmas.List.{length-map}
 use Rattle.std.proofs.lemmas.List.Sums.{sum_by-append, sum_by-cons}
-use Rattle.il_core.specs.Expression.{Expression}
 use Rattle.il_core.specs.Procedure.{Instruction}
 use Rattle.il_core.specs.Statement.{Statement, Placed, procedure, variable, call}
-use Rattle.il_core.specs.Tree.{Tree}
 use Rattle.il_core.specs.declared.line.Place.{Place}
 use Rattle.il_core.specs.declared.statement.Link.{Link}
 use Rattle.il_types.specs.Built.{place_of}
@@ -17,7 +15,6 @@ use Rattle.il_types.specs.Counts.{is_line, one_if}
 use Rattle.il_types.specs.Names.{counts_at}
 use Rattle.il_built.specs.CheckedText.{declared_place, instructions, post_of, target_at}
 use Rattle.il_built.specs.Holding.{setting_at}
-use Rattle.il_built.proofs.Given.{given_by}
 use Rattle.il_built.proofs.VariablesCounted.{variables_to}
 use Rattle.il_called.specs.Called.{Passed, WrittenLine, own}
 use Rattle.il_called.specs.Called as called_line

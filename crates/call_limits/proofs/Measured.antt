@@ -1,21 +1,18 @@
 -- The measures of a procedure are those that its counts and its extent tell behind its last statement.
-use Rattle.std.proofs.Common.{◌≡◌, ◌≢◌, ℕ, zero, suc, ◌+◌, ◌-◌, ◌<◌, ◌≤◌, ◌∙◌, sym, ap, subst, refl, cond, Bool, true, false, List, [], ◌∷◌, ◌++◌, length, drop, arith, append-nil}
-use Rattle.std.specs.Prelude.{Option, Some, None, map, filter, count_by, sum_by, slice_get}
+use Rattle.std.proofs.Common.{◌≡◌, ℕ, ◌+◌, ◌<◌, ◌∙◌, sym, ap, List, [], ◌++◌, length, drop, arith, append-nil}
+use Rattle.std.specs.Prelude.{Some, filter, count_by, sum_by, slice_get}
 use Rattle.std.proofs.lemmas.List.{length-append, length-map}
-use Rattle.std.proofs.lemmas.List.Sums.{sum_by-append, sum_by-cons}
 use Rattle.std.proofs.lemmas.Option.{slice_get_within}
 use Rattle.il_core.specs.Checked.{old_copy, is_copied}
 use Rattle.il_core.specs.Run.{inout_from}
 use Rattle.il_core.specs.Statement.{Statement, Placed, procedure}
 use Rattle.il_core.specs.declared.line.Place.{Place}
 use Rattle.il_core.specs.declared.statement.Link.{Link}
-use Rattle.il_types.specs.declared.counts.Counts.{Counts}
 use Rattle.il_types.specs.Names.{counts_at}
 use Rattle.il_built.specs.CheckedText.{given, declared_place, variables_of, places_of}
 use Rattle.il_built.specs.Holding.{setting_at}
 use Rattle.il_built.proofs.Given.{given_by}
 use Rattle.il_built.proofs.VariablesCounted.{variables_to, variables_counted}
-use Rattle.il_called.specs.Called.{WrittenLine, WrittenProcedure}
 use Rattle.il_called.specs.Expansion.{Callee, is_returned, variables_in, each_from, brings}
 use Rattle.il_called.specs.Expansion as expansion
 use Rattle.call_rules.specs.CalledText.{written_procedure, written_lines, lines_before, callees_before}

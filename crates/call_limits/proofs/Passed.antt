@@ -1,12 +1,11 @@
 -- What is given to a procedure by the statements before it begins and behind its end: nothing.
-use Rattle.std.proofs.Common.{◌≡◌, ◌≢◌, ℕ, zero, suc, ◌+◌, ◌-◌, ◌<◌, ◌≤◌, ◌∙◌, sym, ap, subst, refl, List, [], ◌++◌, length, arith, append-nil}
+use Rattle.std.proofs.Common.{◌≡◌, ◌≢◌, ℕ, zero, suc, ◌+◌, ◌-◌, ◌<◌, ◌≤◌, ◌∙◌, sym, ap, subst, List, [], ◌++◌, length, arith, append-nil}
 use Rattle.std.specs.Prelude.{Some, slice_get}
-use Rattle.std.proofs.lemmas.Option.{slice_get_within}
 use Rattle.il_core.specs.Statement.{Statement, Placed, procedure, variable}
 use Rattle.il_types.specs.declared.counts.Counts.{Counts}
 use Rattle.il_types.specs.Counts.{counts_behind}
 use Rattle.il_types.specs.Names.{counts_at}
-use Rattle.il_built.specs.CheckedText.{of_procedure, given}
+use Rattle.il_built.specs.CheckedText.{given}
 use Rattle.il_built.proofs.Given.{stands, counts_next, given_by, given_next, given_here, not_given}
 
 no_fewer : (c : Counts) (x : Statement) → c.procedures ≤ (counts_behind c x).procedures

@@ -1,8 +1,7 @@
 -- The variables of a procedure, and its places.
-use Rattle.std.proofs.Common.{◌≡◌, ◌≢◌, ℕ, zero, suc, ◌+◌, ◌≤◌, ◌∙◌, sym, ap, subst, refl, inl, inr, cond, Bool, true, false, ◌&&◌, List, [], ◌∷◌, ◌++◌, length, drop, arith, append-nil}
-use Rattle.std.specs.Prelude.{Some, None, map, filter, count_by, slice_get}
+use Rattle.std.proofs.Common.{◌≡◌, ℕ, zero, suc, ◌≤◌, ◌∙◌, sym, ap, subst, refl, inl, inr, cond, Bool, true, false, ◌&&◌, List, [], ◌∷◌, ◌++◌, length, drop, arith, append-nil}
+use Rattle.std.specs.Prelude.{map, filter}
 use Rattle.std.proofs.lemmas.Bool.{cases_eq}
-use Rattle.std.proofs.lemmas.List.{length-append, length-map}
 use Rattle.std.proofs.lemmas.List.Elements.{filter-append}
 use Rattle.il_core.specs.Checked.{old_copy, is_copied}
 use Rattle.il_core.specs.Run.{is_variable, inout_from}

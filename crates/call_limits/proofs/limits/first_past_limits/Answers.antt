@@ -1,6 +1,6 @@
-use Rattle.std.proofs.Common.{◌≡◌, ℕ, ◌∙◌, sym, ap, subst, refl, arith, List}
+use Rattle.std.proofs.Common.{◌∙◌, sym, ap, subst, refl, arith}
 use Rattle.std.specs.Prelude.{map}
-use Rattle.il_core.specs.Statement.{Placed, placed, statement_of}
+use Rattle.il_core.specs.Statement.{placed, statement_of}
 use Rattle.il_types.specs.declared.counts.Counts.{Counts}
 use Rattle.il_types.specs.CountsBelow.{IsBehind}
 use Rattle.il_types.proofs.Passing.{here, refuses_here, before_more, nowhere}
