@@ -1,0 +1,1 @@
+"""Tests of the check that holds docs/READING.md against the definitions of specs/."""
