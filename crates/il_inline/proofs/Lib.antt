@@ -6,3 +6,6 @@ pub mod Steps
 pub mod Layouts
 pub mod Procedures
 pub mod Texts
+pub mod Shape
+pub mod Known
+pub mod Together

@@ -68,7 +68,7 @@ length_each f g P all k (x ∷ xs) parts each h =
     let rest : length (each_from f (suc k) xs) ≡ sum_by g xs = length_each f g P all (suc k) xs parts each p.1 in
     length-append (f k x) (each_from f (suc k) xs) ∙ ap (λ n. n + length (each_from f (suc k) xs)) first ∙ ap (λ n. g x + n) rest ∙ sym (sum_by-cons g x xs)
 
-length_line : (callees : List Callee) (p : WrittenProcedure) (n : ℕ) (line : WrittenLine) → LineCalls callees line → length (lines_of callees p n line) ≡ width_of callees line
+pub length_line : (callees : List Callee) (p : WrittenProcedure) (n : ℕ) (line : WrittenLine) → LineCalls callees line → length (lines_of callees p n line) ≡ width_of callees line
 length_line callees p n (own i) h = refl
 length_line callees p n (call c arguments) h =
     ap (λ (o : Option Callee). length {A = Instruction} (elim o [ None ↦ [] | Some it ↦ call_lines p.places (own_place callees p) (base_of callees p n) (start_of callees p.lines n) it arguments ])) h.there
@@ -82,7 +82,7 @@ length_of_call : (k : ℕ) (o : Option Callee) → length {A = Place} (elim o [ 
 length_of_call k None = refl
 length_of_call k (Some it) = length-map it.expanded.places (brought k)
 
-length_brought : (callees : List Callee) (p : WrittenProcedure) (n : ℕ) (line : WrittenLine) → Unit {0} → length (places_of callees p n line) ≡ brings callees line
+pub length_brought : (callees : List Callee) (p : WrittenProcedure) (n : ℕ) (line : WrittenLine) → Unit {0} → length (places_of callees p n line) ≡ brings callees line
 length_brought callees p n (own i) h = refl
 length_brought callees p n (call c arguments) h = length_of_call (call_number p.lines n) (slice_get callees c)
 
@@ -90,7 +90,7 @@ pub length_places : (callees : List Callee) (p : WrittenProcedure) → length (e
 length_places callees p = length_each (places_of callees p) (brings callees) (λ x. Unit {0}) (λ xs. Unit {0}) 0 p.lines (λ x ys u. (tt, tt)) (length_brought callees p) tt
 
 -- each line becomes one at least
-wide : (callees : List Callee) (line : WrittenLine) → LineCalls callees line → 1 ≤ width_of callees line
+pub wide : (callees : List Callee) (line : WrittenLine) → LineCalls callees line → 1 ≤ width_of callees line
 wide callees (own i) h = omega arith
 wide callees (call c arguments) h = subst (λ k. 1 ≤ k) (sym (width_held callees c arguments h.callee h.there)) (let l = h.lines in omega arith)
 

@@ -30,21 +30,21 @@ named_with name body = record { name = name; body = body }
 abbrev text_with : List ℕ → ℕ → List TextProcedure → Text
 text_with title profile procs = record { title = title; profile = profile; procs = procs }
 
-kept_left : {X : Type 0} (xs ys : List X) (n : ℕ) (x : X) → slice_get xs n ≡ Some x → slice_get (xs ++ ys) n ≡ Some x
+pub kept_left : {X : Type 0} (xs ys : List X) (n : ℕ) (x : X) → slice_get xs n ≡ Some x → slice_get (xs ++ ys) n ≡ Some x
 kept_left [] ys n x e = grind arith
 kept_left (y ∷ xs) ys zero x e = e
 kept_left (y ∷ xs) ys (suc n) x e = kept_left xs ys n x e
 
-at_last : {X : Type 0} (xs : List X) (x : X) → slice_get (xs ++ x ∷ []) (length xs) ≡ Some x
+pub at_last : {X : Type 0} (xs : List X) (x : X) → slice_get (xs ++ x ∷ []) (length xs) ≡ Some x
 at_last [] x = refl
 at_last (y ∷ xs) x = at_last xs x
 
-there : {X : Type 0} (xs : List X) (n : ℕ) → n < length xs → (x : X) × (slice_get xs n ≡ Some x)
+pub there : {X : Type 0} (xs : List X) (n : ℕ) → n < length xs → (x : X) × (slice_get xs n ≡ Some x)
 there [] n h = absurd (omega arith)
 there (x ∷ xs) zero h = (x, refl)
 there (x ∷ xs) (suc n) h = there xs n (omega arith)
 
-behind_keeps : (before : List Callee) (ps : List WrittenProcedure) (n : ℕ) (c : Callee) → slice_get before n ≡ Some c → slice_get (callees_behind before ps) n ≡ Some c
+pub behind_keeps : (before : List Callee) (ps : List WrittenProcedure) (n : ℕ) (c : Callee) → slice_get before n ≡ Some c → slice_get (callees_behind before ps) n ≡ Some c
 behind_keeps before [] n c e = e
 behind_keeps before (p ∷ ps) n c e =
     let it : Callee = record { written = p; expanded = expansion_of before (length before) p } in
@@ -100,7 +100,7 @@ pub next_short : (t : WrittenText) (ps : List CalledProc) (xs : List Inlined) (p
 next_short t ps xs p e h next =
     all_short _ (λ place i. h.names (length xs) _ place (ap (λ (l : List WrittenProcedure). slice_get (callees_of l) (length xs)) e ∙ next_there ps xs p next) i)
 
-all_call : (callees : List Callee) (lines : List WrittenLine)
+pub all_call : (callees : List Callee) (lines : List WrittenLine)
     → ((n c : ℕ) (arguments : List Passed) → slice_get lines n ≡ Some (call c arguments) → CallFits callees c arguments) → AllCall callees lines
 all_call callees [] h = tt
 all_call callees (own i ∷ lines) h = (tt, all_call callees lines (λ n c arguments e. h (suc n) c arguments e))

@@ -1,9 +1,12 @@
 -- The text that a text with calls stands for: each procedure's expansion, under its name; with the written line from which each line comes, and
 -- the lines of each call.
-use Rattle.std.specs.Prelude.{◌≡◌, map}
+use Rattle.std.specs.Prelude.{◌≡◌, ℕ, ◌<◌, ◌≤◌, List, length, map, slice_get, Some}
+use Rattle.il_core.specs.Checked.{NamedProcedure}
 use Rattle.il_core.specs.Text.{Text, TextProcedure, text_of}
 use Rattle.il_called.specs.Called.{WrittenText}
 use Rattle.il_called.specs.Expansion.{Callee, procedure_in, callees_of}
+use Rattle.il_called.specs.declared.called.Origin.{Origin}
+use Rattle.il_called.specs.declared.called.CallSpan.{CallSpan}
 use Rattle.il_inline.specs.declared.expanded.Expanded.{Expanded}
 
 abbrev pub expanded_procedure : Callee → TextProcedure
@@ -16,3 +19,26 @@ pub record IsExpanded (t : WrittenText) (e : Expanded) : Type 0 where
   pub text : text_of e.text ≡ expanded_text t
   pub origins : e.origins ≡ map (λ c. c.expanded.origins) (callees_of t.procs)
   pub spans : e.spans ≡ map (λ c. c.expanded.spans) (callees_of t.procs)
+
+-- the lines of a call: two lines of a procedure, in order, and an earlier procedure
+pub record SpanFits (count number : ℕ) (span : CallSpan) : Type 0 where
+  pub ordered : span.first ≤ span.last
+  pub inside : span.last < count
+  pub earlier : span.callee < number
+
+-- an expanded text whose parts fit together: a list of origins and one of spans for each procedure, an origin for each of its lines, and spans of it
+pub record IsExpandedText (e : Expanded) : Type 0 where
+  pub origins : length e.origins ≡ length e.text.procs
+  pub spans : length e.spans ≡ length e.text.procs
+  pub lines : (k : ℕ) (p : NamedProcedure) (from : List Origin) → slice_get e.text.procs k ≡ Some p → slice_get e.origins k ≡ Some from → length from ≡ length p.lines
+  pub calls : (k n : ℕ) (p : NamedProcedure) (of : List CallSpan) (span : CallSpan) → slice_get e.text.procs k ≡ Some p → slice_get e.spans k ≡ Some of
+      → slice_get of n ≡ Some span → SpanFits (length p.lines) k span
+
+-- a text with calls has one expansion, whatever memory holds it
+pub record AreSame (e f : Expanded) : Type 0 where
+  pub text : text_of e.text ≡ text_of f.text
+  pub origins : e.origins ≡ f.origins
+  pub spans : e.spans ≡ f.spans
+
+abbrev pub SameExpansion : Type 0
+SameExpansion = (t : WrittenText) (e f : Expanded) → IsExpanded t e → IsExpanded t f → AreSame e f

@@ -4,7 +4,7 @@ ghost use Rattle.il_core.specs.Checked.{IsChecked};
 ghost use Rattle.il_called.specs.Called.{written_of, procedure_of, called_of};
 ghost use Rattle.il_called.specs.Expansion.{procedure_in, expansion_of, callees_of};
 ghost use Rattle.il_inline.specs.Calls.{AllCall};
-ghost use Rattle.il_inline.specs.Expanded.{IsExpanded};
+ghost use Rattle.il_inline.specs.Expanded.{IsExpanded, IsExpandedText};
 ghost use Rattle.il_inline.specs.Fits.{AreShort};
 ghost use Rattle.il_inline.specs.Held.{callees_held, expansion_held, HaveNames};
 
@@ -106,7 +106,8 @@ fn expand_procedures(alloc: Global, text: &CalledText) -> Result<Vec<Inlined>, N
 /// This is the copy rule by which Algol 60 defines a call of a procedure (Naur and others, 1963), with parameters handed over
 /// by value and back by result.
 pub fn expand(alloc: Global, text: &CalledText) -> Result<Expanded, NoMemory>
-    ensures { IfOk result (IsExpanded (called_of text.now)) }
+    ensures expansion { IfOk result (IsExpanded (called_of text.now)) }
+    ensures fits { IfOk result IsExpandedText }
 {
     let inlined = expand_procedures(alloc, text)?;
     let mut procs = List::new(alloc);

@@ -22,4 +22,4 @@ mod variables;
 
 pub use expanded::Expanded;
 pub use expanding::expand;
-pub use laws::worked_run;
+pub use laws::{same_expansion, worked_run};
