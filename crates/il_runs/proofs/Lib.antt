@@ -1,2 +1,4 @@
 pub mod Values
 pub mod Steps
+pub mod Renumber
+pub mod Effects
