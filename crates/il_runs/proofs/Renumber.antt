@@ -130,3 +130,30 @@ inner_same f a places pc t (goto q) h = refl
 inner_same f a places pc t skip h = refl
 inner_same f a places pc t (assert e) h = refl
 inner_same f a places pc t (return q) h = refl
+
+renumbered_itself : (f : ℕ → ℕ) → ((k : ℕ) → f k ≡ k) → (e : Expression) → renumbered f e ≡ e
+renumbered_itself f same (number n) = refl
+renumbered_itself f same (variable p) = ap variable (same p)
+renumbered_itself f same (flag p) = ap flag (same p)
+renumbered_itself f same (truth b) = refl
+renumbered_itself f same (minus e) = ap minus (renumbered_itself f same e)
+renumbered_itself f same (opposite e) = ap opposite (renumbered_itself f same e)
+renumbered_itself f same (two o a b) = ap (λ x. two o x (renumbered f b)) (renumbered_itself f same a) ∙ ap (two o a) (renumbered_itself f same b)
+
+-- a line that is moved nowhere
+pub moved_itself : (f a : ℕ → ℕ) → ((k : ℕ) → f k ≡ k) → ((k : ℕ) → a k ≡ k) → (i : Instruction) → moved f a i ≡ i
+moved_itself f a s t (pre e) = ap pre (renumbered_itself f s e)
+moved_itself f a s t (assign p e) = ap (λ k. assign k (renumbered f e)) (s p) ∙ ap (assign p) (renumbered_itself f s e)
+moved_itself f a s t (if_true e q) = ap (λ x. if_true x (a q)) (renumbered_itself f s e) ∙ ap (if_true e) (t q)
+moved_itself f a s t (otherwise q) = ap otherwise (t q)
+moved_itself f a s t end_if = refl
+moved_itself f a s t loop = refl
+moved_itself f a s t (end_loop q) = ap end_loop (t q)
+moved_itself f a s t (exit q) = ap exit (t q)
+moved_itself f a s t (exit_when e q) = ap (λ x. exit_when x (a q)) (renumbered_itself f s e) ∙ ap (exit_when e) (t q)
+moved_itself f a s t label = refl
+moved_itself f a s t (goto q) = ap goto (t q)
+moved_itself f a s t skip = refl
+moved_itself f a s t (assert e) = ap assert (renumbered_itself f s e)
+moved_itself f a s t (return q) = ap return (t q)
+moved_itself f a s t (end_procedure e) = ap end_procedure (renumbered_itself f s e)
