@@ -6,3 +6,5 @@ pub mod Blocks
 pub mod Fit
 pub mod Numbers
 pub mod Seat
+pub mod Walk
+pub mod Chain
