@@ -8,3 +8,4 @@ pub mod Numbers
 pub mod Seat
 pub mod Walk
 pub mod Chain
+pub mod Own

@@ -20,17 +20,17 @@ use Rattle.il_runs.specs.Moved.{IsAlike, Stand, HasValues, EndsAlike, own_next, 
 use Rattle.il_runs.specs.Laws.{HasSameValue, IsMoved}
 use Rattle.il_runs.proofs.Values.{same_value}
 
-value_in : (f : ℕ → ℕ) (places wide : List Place) (s t : State) (e : Expression) → HasValues f places wide s t → NamesBelow (length places) e → HasSameValue f s t e
+pub value_in : (f : ℕ → ℕ) (places wide : List Place) (s t : State) (e : Expression) → HasValues f places wide s t → NamesBelow (length places) e → HasSameValue f s t e
 value_in f places wide s t e v names = same_value f (length places) s t v.each e names
 
 -- alike places keep the same of each value
-kept_alike : (place other : Place) (v : ℤ) → IsAlike place other → kept other v ≡ kept place v
+pub kept_alike : (place other : Place) (v : ℤ) → IsAlike place other → kept other v ≡ kept place v
 kept_alike place other v a =
     ap (λ b. cond b (Some (wrapped other v)) (cond (lies_in other v) (Some v) None)) a.wrap
     ∙ ap (λ l. cond place.wrap (Some (l +ℤ int_rem_euclid (v -ℤ l) ((other.greatest -ℤ l) +ℤ pos 1))) (cond (int_le l v && int_le v other.greatest) (Some v) None)) a.least
     ∙ ap (λ g. cond place.wrap (Some (place.least +ℤ int_rem_euclid (v -ℤ place.least) ((g -ℤ place.least) +ℤ pos 1))) (cond (int_le place.least v && int_le v g) (Some v) None)) a.greatest
 
-given_alike : (f : ℕ → ℕ) (place other : Place) (e : Expression) (s t : State) → IsAlike place other → HasSameValue f s t e
+pub given_alike : (f : ℕ → ℕ) (place other : Place) (e : Expression) (s t : State) → IsAlike place other → HasSameValue f s t e
     → given other (renumbered f e) t ≡ given place e s
 given_alike f place other e s t a v =
     ap (λ b. cond b (option_map bit (holds (renumbered f e) t)) (whole (renumbered f e) t)) a.flag
@@ -38,7 +38,7 @@ given_alike f place other e s t a v =
     ∙ ap (λ w. cond place.flag (option_map bit (holds e s)) w) v.numbers
 
 -- a place gets a value on both sides
-set_alike : (f : ℕ → ℕ) (places wide : List Place) (s t : State) (p : ℕ) (w : ℤ) → Stand f places wide → HasValues f places wide s t
+pub set_alike : (f : ℕ → ℕ) (places wide : List Place) (s t : State) (p : ℕ) (w : ℤ) → Stand f places wide → HasValues f places wide s t
     → p < length places → f p < length wide → HasValues f places wide (slice_set s p w) (slice_set t (f p) w)
 set_alike f places wide s t p w stand v below among =
     record { size = length-set s p w ∙ v.size; wide_size = length-set t (f p) w ∙ v.wide_size; each = at_place }
