@@ -9,3 +9,4 @@ pub mod Seat
 pub mod Walk
 pub mod Chain
 pub mod Own
+pub mod Asserted
