@@ -10,3 +10,4 @@ pub mod Walk
 pub mod Chain
 pub mod Own
 pub mod Asserted
+pub mod Gifts
