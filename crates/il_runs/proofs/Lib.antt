@@ -11,3 +11,4 @@ pub mod Chain
 pub mod Own
 pub mod Asserted
 pub mod Gifts
+pub mod Enter

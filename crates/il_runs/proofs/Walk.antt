@@ -35,3 +35,9 @@ step_in_range p pc q t u checked e r = subst (λ (x : Step). IsInRange p.places 
 pub steps_in_range : (p : Procedure) (m a b : ℕ) (s t : State) → IsChecked p → Steps p m a s b t → IsInRange p.places s → IsInRange p.places t
 steps_in_range p zero a b s t checked f r = subst (IsInRange p.places) f.1 r
 steps_in_range p (suc m) a b s t checked f r = steps_in_range p m f.0 b f.1 t checked f.3 (step_in_range p a f.0 s f.1 checked f.2 r)
+
+-- a step to the next line, and then to each of so many lines behind it
+pub step_more : (p : Procedure) (count l : ℕ) (t u v : State) → step p l t ≡ goes (l + 1) u → Steps p count (l + 1) u ((l + 1) + count) v → Steps p (suc count) l t (l + suc count) v
+step_more p count l t u v e f =
+    let to : (l + 1) + count ≡ l + suc count = omega arith in
+    (l + 1, u, e, subst (λ m. Steps p count (l + 1) u m v) to f)
