@@ -3,11 +3,12 @@ use Rattle.std.proofs.Common.{◌≡◌, refl, sym, ap, ◌∙◌, subst, ℕ, z
 use Rattle.std.specs.Prelude.{int_le, if◌then◌else◌}
 use Rattle.std.specs.Option.{option_map}
 use Rattle.std.proofs.lemmas.Int.{ints}
-use Rattle.il_core.specs.Checked.{HasRange}
+use Rattle.il_core.specs.Checked.{HasRange, Suits}
 use Rattle.il_core.specs.Expression.{Expression, number, variable, flag, truth}
 use Rattle.il_core.specs.Evaluation.{State, value_at, whole, holds}
 use Rattle.il_core.specs.Machine.{Step, goes, stays, bit, given, lies_in, wrapped, kept, stored, assigned_to, assigned, stepped}
 use Rattle.il_core.specs.Procedure.{assign}
+use Rattle.il_core.specs.Run.{IsInRange}
 use Rattle.il_core.specs.declared.line.Halt.{Halt}
 use Rattle.il_core.specs.declared.line.Place.{Place}
 use Rattle.il_core.proofs.Wrapped.{wrapped_own}
@@ -135,3 +136,43 @@ first_gift places wide s t f g h n l q limit v arguments among range values same
         → assigned_to l q among.other t (given among.other (renumbered f (first_value places g v arguments)) t) ≡ by_gift l q t (first_of n places s v arguments)
     by_arguments [] named = least
     by_arguments (a ∷ rest) named = by_read a (is_read v.mode) named
+
+renumbered_read : (f : ℕ → ℕ) (v : Place) (m : ℕ) → renumbered f (read_as v m) ≡ read_as v (f m)
+renumbered_read f v m = by_flag v.flag
+  where
+    by_flag : (b : Bool) → renumbered f (cond b (flag m) (variable m)) ≡ cond b (flag (f m)) (variable (f m))
+    by_flag true = refl
+    by_flag false = refl
+
+-- an assignment of the value of a place to a place of the same kind
+pub read_step : (wide : List Place) (t : State) (f : ℕ → ℕ) (l q m : ℕ) (v to : Place) → IsAmong wide (f m) v → HasRange v → IsInRange wide t → slice_get wide q ≡ Some to
+    → to.flag ≡ v.flag → stepped wide l t (assign q (renumbered f (read_as v m))) ≡ stored l q t (kept to (value_at t (f m)))
+read_step wide t f l q m v to among range in_range there same =
+    ap (λ o. assigned l q (renumbered f (read_as v m)) t o) there
+    ∙ ap (λ x. assigned_to l q to t (given to x t)) (renumbered_read f v m)
+    ∙ ap (assigned_to l q to t) (read_back v to.flag (f m) t same range
+    (subst (λ x. x ≤ℤ value_at t (f m)) among.alike.least (in_range.least (f m) among.other among.there))
+    (subst (λ x. value_at t (f m) ≤ℤ x) among.alike.greatest (in_range.greatest (f m) among.other among.there)))
+
+-- to a place with the same range, which keeps it
+pub copy_step : (wide : List Place) (t : State) (f : ℕ → ℕ) (l q m : ℕ) (v : Place) → IsAmong wide (f m) v → IsAmong wide q v → HasRange v → IsInRange wide t
+    → stepped wide l t (assign q (renumbered f (read_as v m))) ≡ goes (l + 1) (slice_set t q (value_at t (f m)))
+copy_step wide t f l q m v among to range in_range =
+    read_step wide t f l q m v to.other among range in_range to.there to.alike.flag
+    ∙ ap (stored l q t) (kept_alike v to.other (value_at t (f m)) to.alike ∙ kept_own v (value_at t (f m))
+    (subst (λ x. x ≤ℤ value_at t (f m)) among.alike.least (in_range.least (f m) among.other among.there))
+    (subst (λ x. value_at t (f m) ≤ℤ x) among.alike.greatest (in_range.greatest (f m) among.other among.there)))
+
+-- to a place that is alike another one
+pub back_step : (wide : List Place) (t : State) (f : ℕ → ℕ) (l n q m : ℕ) (v place : Place) → IsAmong wide (f m) v → IsAmong wide q place → place.flag ≡ v.flag → HasRange v
+    → IsInRange wide t → stepped wide l t (assign q (renumbered f (read_as v m))) ≡ by_gift l q t (stored_in n (kept place (value_at t (f m))))
+back_step wide t f l n q m v place among to same range in_range =
+    read_step wide t f l q m v to.other among range in_range to.there (to.alike.flag ∙ same)
+    ∙ ap (stored l q t) (kept_alike place to.other (value_at t (f m)) to.alike) ∙ stored_gift l n q t (kept place (value_at t (f m)))
+
+-- a place to which a place is handed back is of its kind
+pub suits_flag : (b c : Bool) (places : List Place) (m : ℕ) → Suits b places (cond c (flag m) (variable m)) → b ≡ c
+suits_flag true true places m h = refl
+suits_flag true false places m h = absurd h
+suits_flag false true places m h = absurd h
+suits_flag false false places m h = refl

@@ -12,3 +12,4 @@ pub mod Own
 pub mod Asserted
 pub mod Gifts
 pub mod Enter
+pub mod Copy
