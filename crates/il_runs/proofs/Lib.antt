@@ -13,3 +13,4 @@ pub mod Asserted
 pub mod Gifts
 pub mod Enter
 pub mod Copy
+pub mod Exit
