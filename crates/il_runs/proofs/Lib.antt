@@ -14,3 +14,4 @@ pub mod Gifts
 pub mod Enter
 pub mod Copy
 pub mod Exit
+pub mod Inouts
