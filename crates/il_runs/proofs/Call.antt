@@ -190,7 +190,7 @@ pub call_step : (w : World) (last : Frame) (below : List Frame) (t : State) (sea
     → Simulated w last.procedure (start_in seat last.line) t
     (called_with (stack_of last below) c it.callee (variables_given last.line seat.written.places last.values (variables_in it.callee.places) arguments []))
 call_step w last below t seat c arguments here at it = by_entry (variables_given n seat.written.places last.values vs arguments [])
-    (entered_run w seat n last.values (place_in seat base) (seat.place + (base + width_at to)) here.is outside vs arguments [] start base t call.sits.enters stand.among stand.ranges
+    (entered_run w seat n last.values (place_in seat base) (seat.place + (base + width_at to)) here.is outside vs arguments [] start base t placed.sits.enters stand.among stand.ranges
     (omega arith) (let h = high in omega arith) here.values)
   where
     n : ℕ
@@ -202,8 +202,8 @@ call_step w last below t seat c arguments here at it = by_entry (variables_given
     to : Seat
     to = called_seat seat n c q it.before
 
-    call : CallHere w seat n c arguments it
-    call = call_here w seat n c arguments here.is at it
+    placed : CallHere w seat n c arguments it
+    placed = call_here w seat n c arguments here.is at it
 
     base : ℕ
     base = base_of seat.before seat.written n
@@ -218,7 +218,7 @@ call_step w last below t seat c arguments here at it = by_entry (variables_given
     inouts = inout_from 0 q.places
 
     stand : VariablesStand w seat base vs
-    stand = variables_stand w seat n c q it.before call.is
+    stand = variables_stand w seat n c q it.before placed.is
 
     count : length q.places ≡ length vs + length inouts
     count = places_count q it.known.in_order
@@ -231,13 +231,13 @@ call_step w last below t seat c arguments here at it = by_entry (variables_given
 
     whole : base + width_at to ≤ width_at seat
     whole =
-        let b = call.block.high in
+        let b = placed.block.high in
         let l = wide_length seat.before seat.number seat.written here.is.known.in_order in
         let p = places_count seat.written here.is.known.in_order in
         omega arith
 
     outside : (k : ℕ) → k < length seat.written.places → (own_in seat k < place_in seat base) ⊎ (seat.place + (base + width_at to) ≤ own_in seat k)
-    outside k h = elim (own_outside seat.before seat.written n (width_at to) k call.block) [ inl a ↦ inl (omega arith) | inr a ↦ inr (omega arith) ]
+    outside k h = elim (own_outside seat.before seat.written n (width_at to) k placed.block) [ inl a ↦ inl (omega arith) | inr a ↦ inr (omega arith) ]
 
     by_entry : (entry : Entry) → EntryRuns w seat base (length vs) (line_in seat start) n t [] entry
         → Simulated w last.procedure (line_in seat start) t (called_with (stack_of last below) c q entry)
@@ -247,7 +247,7 @@ call_step w last below t seat c arguments here at it = by_entry (variables_given
         let same = same_wider _ _ (place_in seat base) (seat.place + (base + width_at to)) t r.state (omega arith) (omega arith) r.same in
         let from : slice_get (wide_of w).origins (line_in seat start + r.number) ≡ Some (origin_at last.procedure n) =
         ap (slice_get (wide_of w).origins) (let f : line_in seat start + r.number ≡ line_in seat (start + r.number) = omega arith in f)
-        ∙ here.is.origins (start + r.number) (origin_at seat.number n) (call.sits.entry_origin r.number (let b = r.below in omega arith))
+        ∙ here.is.origins (start + r.number) (origin_at seat.number n) (placed.sits.entry_origin r.number (let b = r.below in omega arith))
         ∙ ap (λ m. Some (origin_at m n)) here.number in
         record {
           count = r.number;
@@ -265,8 +265,8 @@ call_step w last below t seat c arguments here at it = by_entry (variables_given
         let all = whole in
         let size = here.in_range.size in
         let between = steps_in_range (procedure_in (wide_of w)) (length vs) (line_in seat start) (line_in seat start + length vs) t r.state w.known.checked r.steps here.in_range in
-        let s = copied_run w seat q.places base here.is inouts (start + length vs) (copies_from seat n c q it.before) r.state call.sits.copies
-        (λ j m e. copy_stands w seat n c q it.before j m call.is e)
+        let s = copied_run w seat q.places base here.is inouts (start + length vs) (copies_from seat n c q it.before) r.state placed.sits.copies
+        (λ j m e. copy_stands w seat n c q it.before j m placed.is e)
         (λ j m e. let b = (has_copy q j m it.known.in_order e).below in omega arith) between in
         let u = s.state in
         let line : line_in seat (start + length vs) ≡ line_in seat start + length vs = omega arith in
@@ -291,9 +291,9 @@ call_step w last below t seat c arguments here at it = by_entry (variables_given
             steps = steps;
             stands = record {
               seat = to;
-              is = call.is;
+              is = placed.is;
               number = refl;
-              values = entered_values w seat n c q it.before (line_in seat start) (line_in seat (start + length vs)) t values call.is size r s;
+              values = entered_values w seat n c q it.before (line_in seat start) (line_in seat (start + length vs)) t values placed.is size r s;
               line = first.0;
               at = first.1;
               stands = omega arith;

@@ -15,3 +15,4 @@ pub mod Enter
 pub mod Copy
 pub mod Exit
 pub mod Inouts
+pub mod Call
