@@ -16,3 +16,5 @@ pub mod Copy
 pub mod Exit
 pub mod Inouts
 pub mod Call
+pub mod Return
+pub mod Turns
