@@ -18,3 +18,5 @@ pub mod Inouts
 pub mod Call
 pub mod Return
 pub mod Turns
+pub mod Origins
+pub mod Determined
