@@ -20,3 +20,4 @@ pub mod Return
 pub mod Turns
 pub mod Origins
 pub mod Determined
+pub mod Alike

@@ -1,4 +1,4 @@
--- An expanded procedure runs as the stack machine runs the text as it is written. This law is stated here and not proved yet.
+-- An expanded procedure runs as the stack machine runs the text as it is written.
 use Rattle.std.specs.Prelude.{◌≡◌, ◌⊎◌, ℕ, zero, suc, ◌+◌, ◌-◌, nat_lt, if◌then◌else◌, List, [], ◌∷◌, length, slice_get, Some}
 use Rattle.il_core.specs.Evaluation.{State}
 use Rattle.il_core.specs.Run.{Steps, HaltsAfter, IsInitial, inout_from}
