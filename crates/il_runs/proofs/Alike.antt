@@ -1,23 +1,22 @@
 -- The expanded run goes as the stack machine does.
-use Rattle.std.proofs.Common.{◌≡◌, refl, sym, ap, ◌∙◌, subst, ℕ, zero, suc, ◌+◌, ◌-◌, ◌<◌, ◌≤◌, inl, inr, ℤ, pos, Bool, Some, List, [], ◌∷◌, length, get_or, slice_get, arith}
-use Rattle.std.specs.Prelude.{◌⊎◌, nat_lt, if◌then◌else◌}
-use Rattle.std.proofs.lemmas.Bool.{cases_lt, lt-ltb, le-ltb}
+use Rattle.std.proofs.Common.{◌≡◌, refl, sym, ap, ◌∙◌, subst, ℕ, zero, suc, ◌+◌, ◌-◌, ◌<◌, inl, inr, pos, Bool, Some, List, length, get_or, slice_get, arith}
+use Rattle.std.specs.Prelude.{if◌then◌else◌}
+use Rattle.std.proofs.lemmas.Bool.{lt-ltb, le-ltb}
 use Rattle.std.proofs.lemmas.Option.{same_Some, slice_get_within}
 use Rattle.il_core.specs.Evaluation.{State}
-use Rattle.il_core.specs.Run.{Steps, HaltsAfter, IsInRange, IsInitial}
+use Rattle.il_core.specs.Run.{HaltsAfter, IsInRange}
 use Rattle.il_core.specs.declared.line.Halt.{Halt}
 use Rattle.il_core.specs.declared.line.Place.{Place}
 use Rattle.il_called.specs.Called.{WrittenProcedure, WrittenText}
-use Rattle.il_called.specs.CalledText.{IsCalledText}
-use Rattle.il_called.specs.Expansion.{Callee, Expansion, procedure_in, variables_in, own_place, expansion_of, callees_of}
-use Rattle.il_inline.specs.Stack.{Frame, Stack, Turn, runs, halts, turn}
+use Rattle.il_called.specs.Expansion.{Callee, Expansion, procedure_in, variables_in, expansion_of, callees_of}
+use Rattle.il_inline.specs.Stack.{Stack, Turn, runs, halts, turn}
 use Rattle.il_inline.proofs.Known.{made, count_callees, Known, known_at}
 use Rattle.il_inline.proofs.Sizes.{length_lines}
 use Rattle.il_inline.proofs.Texts.{there}
 use Rattle.il_runs.specs.Moved.{HasValues}
-use Rattle.il_runs.specs.Runs.{Turns, TurnsHalt, alone, own_number, FirstStands, HaltsAlike, Starts, Follows, EndAlike, HaltsToo, HaltsBefore, RunsAlike}
+use Rattle.il_runs.specs.Runs.{Turns, TurnsHalt, alone, own_number, FirstStands, HaltsAlike, Starts, EndAlike, RunsAlike}
 use Rattle.il_runs.proofs.Chain.{World, wide_of, main_of, FirstHas, chain_first, Stands, Reaches, Ends, Simulated}
-use Rattle.il_runs.proofs.Determined.{HaltsLater, halts_later, SameEnd, halts_here}
+use Rattle.il_runs.proofs.Determined.{halts_later, halts_here}
 use Rattle.il_runs.proofs.Fit.{begins_before}
 use Rattle.il_runs.proofs.Numbers.{own_cases, wide_length}
 use Rattle.il_runs.proofs.Origins.{comes_from}

@@ -1,16 +1,16 @@
 -- A condition of a frame that was pushed is asserted by one step; and each line of the last frame but its end is simulated.
-use Rattle.std.proofs.Common.{◌≡◌, refl, sym, ap, ◌∙◌, subst, ℕ, ◌+◌, ◌<◌, inl, Bool, true, false, Option, Some, None, List, [], ◌∷◌, length, slice_get, arith}
+use Rattle.std.proofs.Common.{◌≡◌, refl, sym, ap, ◌∙◌, ℕ, ◌+◌, inl, Bool, true, false, Option, Some, None, List, [], ◌∷◌, length, slice_get, arith}
 use Rattle.il_core.specs.Expression.{Expression}
 use Rattle.il_core.specs.Evaluation.{State, holds}
-use Rattle.il_core.specs.Machine.{Step, goes, stays, decided, stepped, step}
+use Rattle.il_core.specs.Machine.{goes, stays, decided, stepped, step}
 use Rattle.il_core.specs.Procedure.{Instruction, pre, assign, if_true, otherwise, end_if, loop, end_loop, exit, exit_when, label, goto, skip, assert, return, end_procedure}
 use Rattle.il_core.specs.declared.line.Halt.TheVariants.{FailedAssert, DivZero}
 use Rattle.il_called.specs.Called.{WrittenLine, own}
 use Rattle.il_called.specs.Expansion.{Expansion, procedure_in, renumbered, moved, origin_at}
-use Rattle.il_inline.specs.Stack.{Frame, Stack, Turn, runs, own_turn, pushed_turn, ended, by_step, asserted}
+use Rattle.il_inline.specs.Stack.{Frame, Turn, own_turn, pushed_turn, ended, by_step, asserted}
 use Rattle.il_inline.specs.Within.{NamesBelow}
 use Rattle.il_inline.proofs.Texts.{there}
-use Rattle.il_runs.proofs.Chain.{World, wide_of, main_of, Chain, chain_first, Stands, Reaches, Ends, Arrives, Simulated, after_steps}
+use Rattle.il_runs.proofs.Chain.{World, wide_of, chain_first, Arrives, Simulated, after_steps}
 use Rattle.il_runs.proofs.Own.{OwnLine, own_line, Here, stack_of, own_step}
 use Rattle.il_runs.proofs.Renumber.{placed, IsInner, inner_same}
 use Rattle.il_runs.proofs.Seat.{Seat, own_in, start_in}

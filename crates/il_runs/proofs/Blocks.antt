@@ -1,5 +1,5 @@
 -- Where the lines, the origins and the places that a written line becomes stand in an expansion.
-use Rattle.std.proofs.Common.{◌≡◌, ℕ, zero, suc, ◌+◌, ◌-◌, ◌<◌, List, [], ◌∷◌, ◌++◌, length, map, take, drop, refl, sym, ap, ◌∙◌, subst, arith}
+use Rattle.std.proofs.Common.{◌≡◌, ℕ, zero, suc, ◌+◌, ◌-◌, ◌<◌, List, [], ◌∷◌, ◌++◌, length, map, take, drop, refl, ap, ◌∙◌, subst, arith}
 use Rattle.std.specs.Prelude.{sum_by, count_by, slice_get, Option, None, Some}
 use Rattle.std.specs.Option.{option_map}
 use Rattle.std.proofs.lemmas.List.{length-append, length-map}
@@ -8,10 +8,10 @@ use Rattle.il_core.specs.Procedure.{Instruction}
 use Rattle.il_core.specs.Run.{inout_from}
 use Rattle.il_core.specs.declared.line.Place.{Place}
 use Rattle.il_called.specs.Called.{Passed, WrittenLine, own, call, WrittenProcedure}
-use Rattle.il_called.specs.Expansion.{Callee, Expansion, moved, inlined, variables_in, is_returned, entered, copied, handed_back, body_of, entry_of, call_lines, call_width, entry_width, width_of, start_of, brings, base_of, own_place, each_from, lines_of, origin_at, repeated, origins_of, call_number, brought, places_of, expansion_of}
+use Rattle.il_called.specs.Expansion.{Callee, moved, inlined, variables_in, is_returned, entered, copied, handed_back, body_of, entry_of, call_lines, call_width, entry_width, width_of, start_of, brings, base_of, own_place, each_from, lines_of, origin_at, repeated, origins_of, call_number, brought, places_of}
 use Rattle.il_called.specs.declared.called.Origin.{Origin}
-use Rattle.il_inline.specs.Calls.{CallFits, LineCalls, AllCall}
-use Rattle.il_inline.proofs.Held.{width_held, brings_held, origins_held}
+use Rattle.il_inline.specs.Calls.{CallFits, AllCall}
+use Rattle.il_inline.proofs.Held.{width_held, origins_held}
 use Rattle.il_inline.proofs.Shape.{behind, each_at, line_calls, start_next}
 use Rattle.il_inline.proofs.Sizes.{length_entered, length_copied, length_handed, length_line, length_brought}
 use Rattle.il_inline.proofs.Texts.{kept_left}

@@ -1,5 +1,5 @@
 -- A call is simulated by the lines of its entry, behind which its callee's frame stands at its first line.
-use Rattle.std.proofs.Common.{◌≡◌, refl, sym, ap, ◌∙◌, subst, ℕ, zero, suc, ◌+◌, ◌-◌, ◌<◌, ◌≤◌, inl, inr, ℤ, pos, Option, Some, None, List, [], ◌∷◌, ◌++◌, length, map, drop, slice_get, arith}
+use Rattle.std.proofs.Common.{◌≡◌, refl, sym, ap, ◌∙◌, subst, ℕ, ◌+◌, ◌-◌, ◌<◌, ◌≤◌, inl, inr, ℤ, pos, Some, List, [], length, map, slice_get, arith}
 use Rattle.std.specs.Prelude.{◌⊎◌, filter, sum_by}
 use Rattle.std.specs.Option.{option_map}
 use Rattle.std.proofs.lemmas.Bool.{cases_lt}
@@ -7,11 +7,10 @@ use Rattle.std.proofs.lemmas.List.{length-append, length-map, get_or_append_left
 use Rattle.std.proofs.lemmas.Option.{slice_get_within, slice_get-map, get_or_from_slice_get}
 use Rattle.il_core.specs.Checked.{HasRange, old_copy, is_copied, AreInOrder}
 use Rattle.il_core.specs.Evaluation.{State, value_at}
-use Rattle.il_core.specs.Run.{Steps, IsInRange, inout_from}
-use Rattle.il_core.specs.declared.line.Halt.{Halt}
+use Rattle.il_core.specs.Run.{Steps, inout_from}
 use Rattle.il_core.specs.declared.line.Place.{Place}
-use Rattle.il_called.specs.Called.{Passed, WrittenLine, call, WrittenProcedure}
-use Rattle.il_called.specs.Expansion.{Callee, Expansion, procedure_in, variables_in, entry_width, start_of, base_of, own_place, brings, each_from, places_of, origin_at}
+use Rattle.il_called.specs.Called.{Passed, call, WrittenProcedure}
+use Rattle.il_called.specs.Expansion.{Callee, procedure_in, variables_in, start_of, base_of, own_place, brings, origin_at}
 use Rattle.il_inline.specs.Stack.{Frame, Entry, enters, fails, variables_given, with_copies, called_with}
 use Rattle.il_inline.proofs.Known.{made}
 use Rattle.il_inline.proofs.Sizes.{length_lines}
@@ -21,13 +20,13 @@ use Rattle.il_runs.proofs.Blocks.{CallSits, call_sits}
 use Rattle.il_runs.proofs.Chain.{World, wide_of, width_at, values_kept, chain_kept, chain_first, Simulated}
 use Rattle.il_runs.proofs.Copy.{IsCopied, Copying, copied_run}
 use Rattle.il_runs.proofs.Effects.{SameOutside, same_then, same_wider}
-use Rattle.il_runs.proofs.Enter.{Entering, Failing, EntryRuns, entered_run}
+use Rattle.il_runs.proofs.Enter.{Entering, EntryRuns, entered_run}
 use Rattle.il_runs.proofs.Fit.{begins_before}
 use Rattle.il_runs.proofs.Inouts.{places_count, HasCopy, has_copy}
 use Rattle.il_runs.proofs.Numbers.{own_cases, own_there, own_outside, BlockFits, block_fits, wide_length}
 use Rattle.il_runs.proofs.Own.{Here, stack_of, halts_at}
-use Rattle.il_runs.proofs.Seat.{Seat, expansion_at, place_in, line_in, own_in, start_in, IsSeat, seat_stand, called_seat, CallKnown, call_known, called_is}
-use Rattle.il_runs.proofs.Walk.{then_steps, steps_to, steps_in_range}
+use Rattle.il_runs.proofs.Seat.{Seat, expansion_at, place_in, line_in, own_in, start_in, IsSeat, seat_stand, called_seat, CallKnown, called_is}
+use Rattle.il_runs.proofs.Walk.{then_steps, steps_in_range}
 
 -- the call on a line of the procedure that sits here
 pub record CallHere (w : World) (seat : Seat) (n c : ℕ) (arguments : List Passed) (it : CallKnown w.text.procs seat n c arguments) : Type 0 where
@@ -299,19 +298,19 @@ call_step w last below t seat c arguments here at it = by_entry (variables_given
               stands = omega arith;
               in_range = steps_in_range (procedure_in (wide_of w)) (length vs + length inouts) (line_in seat start) ((line_in seat start + length vs) + length inouts) t u w.known.checked steps here.in_range;
               chain = (
-                  seat,
-                  record {
-                    is = here.is;
-                    number = here.number;
-                    values = values_kept w t u seat seat.written.places last.values (place_in seat base) (seat.place + (base + width_at to)) same outside here.values;
-                    callee = c;
-                    arguments = arguments;
-                    line = at;
-                    it = it;
-                    seated = refl;
-                  },
-                  chain_kept w t u below seat (same_wider _ _ seat.place (seat.place + width_at seat) t u (omega arith) (omega arith) same) here.chain,
-                );
+                seat,
+                record {
+                  is = here.is;
+                  number = here.number;
+                  values = values_kept w t u seat seat.written.places last.values (place_in seat base) (seat.place + (base + width_at to)) same outside here.values;
+                  callee = c;
+                  arguments = arguments;
+                  line = at;
+                  it = it;
+                  seated = refl;
+                },
+                chain_kept w t u below seat (same_wider _ _ seat.place (seat.place + width_at seat) t u (omega arith) (omega arith) same) here.chain,
+              );
             };
           },
           inr (omega arith),

@@ -1,14 +1,14 @@
 -- The stack of frames stands at a line of the expansion: the last frame's procedure is seated there, and below it each frame at the call of the next.
-use Rattle.std.proofs.Common.{◌≡◌, refl, sym, ap, ◌∙◌, subst, ℕ, suc, ◌+◌, ◌<◌, ◌≤◌, inl, inr, List, [], ◌∷◌, length, slice_get, Some, arith}
+use Rattle.std.proofs.Common.{◌≡◌, sym, ap, ◌∙◌, subst, ℕ, ◌+◌, ◌<◌, ◌≤◌, inl, inr, List, [], ◌∷◌, length, slice_get, Some, arith}
 use Rattle.std.specs.Prelude.{◌⊎◌}
-use Rattle.il_core.specs.Evaluation.{State, value_at}
+use Rattle.il_core.specs.Evaluation.{State}
 use Rattle.il_core.specs.Machine.{step, stays}
 use Rattle.il_core.specs.Run.{Steps, IsInRange}
 use Rattle.il_core.specs.declared.line.Halt.{Halt}
 use Rattle.il_core.specs.declared.line.Place.{Place}
 use Rattle.il_called.specs.Called.{Passed, WrittenLine, call, WrittenProcedure, WrittenText}
 use Rattle.il_called.specs.CalledText.{IsCalledText}
-use Rattle.il_called.specs.Expansion.{Callee, Expansion, procedure_in, base_of, own_place, expansion_of}
+use Rattle.il_called.specs.Expansion.{Callee, Expansion, procedure_in, base_of, expansion_of}
 use Rattle.il_inline.specs.Stack.{Frame, Stack, Turn, runs, halts}
 use Rattle.il_inline.proofs.Known.{Known}
 use Rattle.il_runs.specs.Moved.{HasValues}

@@ -1,11 +1,10 @@
 -- A run of the expansion has one end.
-use Rattle.std.proofs.Common.{◌≡◌, refl, sym, ap, ◌∙◌, subst, ℕ, zero, suc, ◌+◌, arith}
+use Rattle.std.proofs.Common.{◌≡◌, sym, ap, ◌∙◌, subst, ℕ, zero, suc, ◌+◌, arith}
 use Rattle.il_core.specs.Evaluation.{State}
 use Rattle.il_core.specs.Machine.{Step, goes, stays, step}
 use Rattle.il_core.specs.Procedure.{Procedure}
 use Rattle.il_core.specs.Run.{Steps, HaltsAfter}
 use Rattle.il_core.specs.declared.line.Halt.{Halt}
-use Rattle.il_core.specs.declared.line.Next.{Next}
 use Rattle.il_core.specs.declared.line.Next.TheVariants.{At, Halted}
 
 goes_and_stays : (a b : ℕ) (s t : State) (h : Halt) → goes a s ≡ stays h t → ⊥

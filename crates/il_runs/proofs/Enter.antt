@@ -1,5 +1,5 @@
 -- The lines of a call's entry run as the stack machine gives the callee's variables their first values.
-use Rattle.std.proofs.Common.{◌≡◌, refl, sym, ap, ◌∙◌, subst, ℕ, zero, suc, ◌+◌, ◌<◌, ◌≤◌, inl, inr, ℤ, pos, Some, List, [], ◌∷◌, ◌++◌, length, slice_get, slice_set, arith}
+use Rattle.std.proofs.Common.{◌≡◌, refl, sym, ap, ◌∙◌, subst, ℕ, zero, suc, ◌+◌, ◌<◌, ◌≤◌, inl, ℤ, pos, Some, List, [], ◌∷◌, ◌++◌, length, slice_get, slice_set, arith}
 use Rattle.std.specs.Prelude.{◌⊎◌}
 use Rattle.std.proofs.Math.Seq.{get_or-append_seam}
 use Rattle.std.proofs.lemmas.List.{length-append, get_or_append_left, get_or-set_same}
@@ -7,13 +7,13 @@ use Rattle.std.proofs.lemmas.Option.{slice_get_within}
 use Rattle.il_core.specs.Checked.{HasRange}
 use Rattle.il_core.specs.Evaluation.{State, value_at}
 use Rattle.il_core.specs.Expression.{Expression}
-use Rattle.il_core.specs.Machine.{Step, goes, stays, stepped, step}
-use Rattle.il_core.specs.Procedure.{Instruction, assign}
+use Rattle.il_core.specs.Machine.{goes, stays, step}
+use Rattle.il_core.specs.Procedure.{assign}
 use Rattle.il_core.specs.Run.{Steps}
 use Rattle.il_core.specs.declared.line.Halt.{Halt}
 use Rattle.il_core.specs.declared.line.Place.{Place}
 use Rattle.il_called.specs.Called.{Passed}
-use Rattle.il_called.specs.Expansion.{Expansion, procedure_in, renumbered, own_place, first_value, entered, left_behind}
+use Rattle.il_called.specs.Expansion.{procedure_in, renumbered, own_place, first_value, entered, left_behind}
 use Rattle.il_inline.specs.Stack.{Gift, gives, faults, Entry, enters, fails, first_of, entered_after, variables_given}
 use Rattle.il_inline.specs.Within.{NamesBelow}
 use Rattle.il_runs.specs.Moved.{IsAmong, HasValues, halt_at}

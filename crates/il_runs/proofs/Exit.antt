@@ -1,5 +1,5 @@
 -- The lines of a call's exit run as the stack machine hands the parameters back.
-use Rattle.std.proofs.Common.{◌≡◌, refl, sym, ap, ◌∙◌, subst, ℕ, zero, suc, ◌+◌, ◌<◌, ◌≤◌, inl, inr, ℤ, pos, Bool, true, false, cond, Option, Some, None, List, [], ◌∷◌, ◌++◌, length, slice_get, slice_set, arith}
+use Rattle.std.proofs.Common.{◌≡◌, refl, sym, ap, ◌∙◌, subst, ℕ, suc, ◌+◌, ◌<◌, ◌≤◌, inl, inr, pos, Bool, true, false, cond, Option, Some, None, List, [], ◌∷◌, ◌++◌, length, slice_get, slice_set, arith}
 use Rattle.std.specs.Prelude.{◌⊎◌}
 use Rattle.std.proofs.lemmas.List.{get_or-set_other}
 use Rattle.std.proofs.lemmas.Option.{same_Some, slice_get_within}
@@ -12,8 +12,8 @@ use Rattle.il_core.specs.declared.line.Halt.{Halt}
 use Rattle.il_core.specs.declared.line.Halt.TheVariants.{Range}
 use Rattle.il_core.specs.declared.line.Place.{Place}
 use Rattle.il_called.specs.Called.{Passed, value, variable_of}
-use Rattle.il_called.specs.Expansion.{procedure_in, is_returned, own_place, read_as, left_behind, back_to, handed_back}
-use Rattle.il_inline.specs.Stack.{Gift, gives, faults, stored_in, Handed, handed_on, back_one, all_back}
+use Rattle.il_called.specs.Expansion.{procedure_in, is_returned, own_place, read_as, left_behind, handed_back}
+use Rattle.il_inline.specs.Stack.{Gift, gives, faults, stored_in, Handed, handed_on, all_back}
 use Rattle.il_inline.proofs.Texts.{there}
 use Rattle.il_runs.specs.Moved.{IsAmong, HasValues, halt_at}
 use Rattle.il_runs.proofs.Blocks.{Sit, sit_first, sit_rest}

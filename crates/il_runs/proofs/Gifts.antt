@@ -1,15 +1,14 @@
 -- What an assignment of an argument, of a least value, or of the value of another place gives a place.
-use Rattle.std.proofs.Common.{◌≡◌, refl, sym, ap, ◌∙◌, subst, ℕ, zero, suc, ◌+◌, ◌<◌, ℤ, pos, negsuc, ◌≤ℤ◌, Bool, true, false, ◌&&◌, cond, Option, Some, None, List, [], ◌∷◌, length, slice_get, slice_set, arith}
-use Rattle.std.specs.Prelude.{int_le, if◌then◌else◌}
+use Rattle.std.proofs.Common.{◌≡◌, refl, sym, ap, ◌∙◌, subst, ℕ, zero, suc, ◌+◌, ◌<◌, ℤ, pos, negsuc, ◌≤ℤ◌, Bool, true, false, cond, Option, Some, None, List, [], ◌∷◌, length, slice_get, slice_set, arith}
+use Rattle.std.specs.Prelude.{int_le}
 use Rattle.std.specs.Option.{option_map}
 use Rattle.std.proofs.lemmas.Int.{ints}
 use Rattle.il_core.specs.Checked.{HasRange, Suits}
-use Rattle.il_core.specs.Expression.{Expression, number, variable, flag, truth}
+use Rattle.il_core.specs.Expression.{number, variable, flag, truth}
 use Rattle.il_core.specs.Evaluation.{State, value_at, whole, holds}
 use Rattle.il_core.specs.Machine.{Step, goes, stays, bit, given, lies_in, wrapped, kept, stored, assigned_to, assigned, stepped}
 use Rattle.il_core.specs.Procedure.{assign}
 use Rattle.il_core.specs.Run.{IsInRange}
-use Rattle.il_core.specs.declared.line.Halt.{Halt}
 use Rattle.il_core.specs.declared.line.Place.{Place}
 use Rattle.il_core.proofs.Wrapped.{wrapped_own}
 use Rattle.il_called.specs.Called.{Passed, value, variable_of}

@@ -1,16 +1,15 @@
 -- The OLD copies of a procedure's INOUT variables, and the numbers of these variables.
-use Rattle.std.proofs.Common.{◌≡◌, refl, sym, ap, ◌∙◌, subst, ℕ, zero, suc, ◌+◌, ◌-◌, ◌<◌, ◌≤◌, inl, inr, Bool, true, false, ◌&&◌, cond, Some, List, [], ◌∷◌, ◌++◌, length, map, slice_get, arith}
-use Rattle.std.specs.Prelude.{filter, not}
+use Rattle.std.proofs.Common.{◌≡◌, refl, sym, ap, ◌∙◌, ℕ, zero, suc, ◌+◌, ◌-◌, ◌<◌, ◌≤◌, inl, inr, Bool, true, false, ◌&&◌, cond, Some, List, [], ◌∷◌, ◌++◌, length, map, slice_get, arith}
+use Rattle.std.specs.Prelude.{filter}
 use Rattle.std.specs.Option.{option_map}
 use Rattle.std.proofs.lemmas.Bool.{cases_lt, false≢true}
 use Rattle.std.proofs.lemmas.Option.{same_Some, slice_get-map}
 use Rattle.il_core.specs.Checked.{old_copy, is_copied, AreInOrder}
-use Rattle.il_core.specs.Run.{is_inout, is_variable, inout_from}
+use Rattle.il_core.specs.Run.{is_variable, inout_from}
 use Rattle.il_core.specs.declared.line.Place.{Place}
 use Rattle.il_called.specs.Called.{WrittenProcedure}
 use Rattle.il_called.specs.Expansion.{variables_in}
 use Rattle.il_inline.proofs.Shape.{behind, past}
-use Rattle.il_runs.proofs.Blocks.{front}
 use Rattle.il_runs.proofs.Numbers.{variables_within}
 
 -- there are as many OLD copies as INOUT variables

@@ -1,6 +1,5 @@
 -- The line of the expansion at which a stack stands comes from the line at which its last frame stands.
-use Rattle.std.proofs.Common.{◌≡◌, refl, sym, ap, ◌∙◌, subst, ℕ, zero, suc, ◌+◌, ◌-◌, ◌<◌, ◌≤◌, inl, inr, Some, List, [], ◌∷◌, length, slice_get, arith}
-use Rattle.std.specs.Prelude.{◌⊎◌}
+use Rattle.std.proofs.Common.{◌≡◌, refl, sym, ap, ◌∙◌, subst, ℕ, ◌+◌, inl, inr, Some, List, [], ◌∷◌, length, slice_get, arith}
 use Rattle.std.proofs.lemmas.Bool.{cases_lt}
 use Rattle.std.proofs.lemmas.Option.{same_Some}
 use Rattle.il_core.specs.Evaluation.{State}
@@ -8,8 +7,8 @@ use Rattle.il_core.specs.Expression.{Expression}
 use Rattle.il_core.specs.Procedure.{Instruction, pre, assign, if_true, otherwise, end_if, loop, end_loop, exit, exit_when, label, goto, skip, assert, return, end_procedure}
 use Rattle.il_core.specs.Run.{inout_from}
 use Rattle.il_core.specs.declared.line.Place.{Place}
-use Rattle.il_called.specs.Called.{Passed, WrittenLine, own, call, WrittenProcedure}
-use Rattle.il_called.specs.Expansion.{Callee, inlined, entered, copied, variables_in, entry_width, start_of, base_of, own_place, origin_at, expansion_of}
+use Rattle.il_called.specs.Called.{Passed, WrittenLine, own, call}
+use Rattle.il_called.specs.Expansion.{Callee, inlined, entered, copied, variables_in, entry_width, start_of, origin_at}
 use Rattle.il_inline.specs.Calls.{CallFits}
 use Rattle.il_inline.specs.Stack.{Stack}
 use Rattle.il_inline.proofs.Known.{made}
@@ -21,7 +20,7 @@ use Rattle.il_runs.proofs.Blocks.{Sit, sit_first, own_origin, CallSits, call_sit
 use Rattle.il_runs.proofs.Call.{CallHere, call_here}
 use Rattle.il_runs.proofs.Chain.{World, wide_of, Stands}
 use Rattle.il_runs.proofs.Fit.{begins_before}
-use Rattle.il_runs.proofs.Own.{OwnLine, own_line}
+use Rattle.il_runs.proofs.Own.{own_line}
 use Rattle.il_runs.proofs.Seat.{Seat, expansion_at, line_in, start_in, IsSeat, called_seat, CallKnown, call_known}
 
 -- no line of a procedure that is called is a precondition

@@ -1,34 +1,31 @@
 -- A line of the last frame's procedure, that is no call, is simulated by one step.
-use Rattle.std.proofs.Common.{◌≡◌, refl, sym, ap, ◌∙◌, subst, ℕ, ◌+◌, ◌<◌, ◌≤◌, inl, inr, Bool, true, false, Option, Some, None, List, [], ◌∷◌, length, slice_get, arith}
-use Rattle.std.specs.Prelude.{◌⊎◌}
+use Rattle.std.proofs.Common.{◌≡◌, refl, sym, ap, ◌∙◌, subst, ℕ, ◌+◌, ◌<◌, ◌≤◌, inl, Some, List, length, slice_get, arith}
 use Rattle.il_core.specs.Checked.{FitsAt}
-use Rattle.il_core.specs.Expression.{Expression}
-use Rattle.il_core.specs.Evaluation.{State, holds}
+use Rattle.il_core.specs.Evaluation.{State}
 use Rattle.il_core.specs.LineGraph.{IsIn, heads_of}
-use Rattle.il_core.specs.Machine.{Step, goes, stays, decided, stepped, step}
+use Rattle.il_core.specs.Machine.{Step, goes, stays, stepped, step}
 use Rattle.il_core.specs.Procedure.{Instruction, pre, assign, if_true, otherwise, end_if, loop, end_loop, exit, exit_when, label, goto, skip, assert, return, end_procedure}
-use Rattle.il_core.specs.Run.{Steps, IsInRange}
+use Rattle.il_core.specs.Run.{IsInRange}
 use Rattle.il_core.specs.declared.line.Halt.{Halt}
 use Rattle.il_core.specs.declared.line.Halt.TheVariants.{End, Outside, FailedAssert, FailedPost, DivZero, Range}
 use Rattle.il_core.specs.declared.line.Next.{Next}
 use Rattle.il_core.specs.declared.line.Next.TheVariants.{At, Halted}
-use Rattle.il_called.specs.Called.{WrittenLine, own}
-use Rattle.il_called.specs.Expansion.{Expansion, procedure_in, renumbered, moved, start_of, own_place, origin_at}
+use Rattle.il_called.specs.Called.{own}
+use Rattle.il_called.specs.Expansion.{Expansion, procedure_in, moved, start_of, own_place, origin_at}
 use Rattle.il_called.specs.declared.called.Origin.{Origin}
-use Rattle.il_inline.specs.Stack.{Frame, Stack, Turn, runs, halts, moved_to, by_step, asserted}
+use Rattle.il_inline.specs.Stack.{Frame, Stack, moved_to, by_step}
 use Rattle.il_inline.specs.Within.{IsWithin}
 use Rattle.il_inline.proofs.Shape.{start_next}
 use Rattle.il_inline.proofs.Sizes.{length_lines}
 use Rattle.il_inline.proofs.Texts.{there}
-use Rattle.il_runs.specs.Laws.{IsMoved}
 use Rattle.il_runs.specs.Moved.{HasValues, EndsAlike, halt_at, own_next}
 use Rattle.il_runs.specs.Runs.{HaltsAlike}
 use Rattle.il_runs.proofs.Blocks.{own_sits, own_origin}
-use Rattle.il_runs.proofs.Chain.{World, wide_of, main_of, Chain, width_at, chain_kept, chain_first, Stands, Reaches, Ends, Arrives, Simulated, after_steps}
+use Rattle.il_runs.proofs.Chain.{World, wide_of, Chain, width_at, chain_kept, chain_first, Simulated}
 use Rattle.il_runs.proofs.Effects.{IsAt, AssignsIn, Effect, effect}
 use Rattle.il_runs.proofs.Fit.{moved_within, limit_of, heads_inside, begins_before}
 use Rattle.il_runs.proofs.Numbers.{own_back, own_below}
-use Rattle.il_runs.proofs.Renumber.{placed, moved_then, IsInner, inner_same}
+use Rattle.il_runs.proofs.Renumber.{placed, moved_then}
 use Rattle.il_runs.proofs.Seat.{Seat, expansion_at, place_in, line_in, own_in, start_in, IsSeat, seat_stand}
 use Rattle.il_runs.proofs.Steps.{moved_alike}
 use Rattle.il_runs.proofs.Walk.{step_is, no_steps, one_step, step_in_range}

@@ -1,8 +1,8 @@
 -- Instructions that are renumbered twice, and what a renumbered instruction tells of the one that was renumbered.
-use Rattle.std.proofs.Common.{◌≡◌, refl, ap, ◌∙◌, ℕ, ◌<◌, Bool, true, false, List, length}
+use Rattle.std.proofs.Common.{◌≡◌, refl, ap, ◌∙◌, ℕ, Bool, true, false, List}
 use Rattle.il_core.specs.Expression.{Expression, number, variable, flag, truth, minus, opposite, two}
 use Rattle.il_core.specs.Procedure.{Instruction, pre, assign, if_true, otherwise, end_if, loop, end_loop, exit, exit_when, label, goto, skip, assert, return, end_procedure}
-use Rattle.il_core.specs.Machine.{Step, stepped}
+use Rattle.il_core.specs.Machine.{stepped}
 use Rattle.il_core.specs.Evaluation.{State}
 use Rattle.il_core.specs.declared.line.Place.{Place}
 use Rattle.il_called.specs.Expansion.{renumbered, moved, inlined}

@@ -1,7 +1,5 @@
 -- The end of a frame that was pushed is simulated by the lines of its call's exit, behind which its caller stands behind the call.
-use Rattle.std.proofs.Common.{◌≡◌, refl, sym, ap, ◌∙◌, subst, ℕ, suc, ◌+◌, ◌<◌, ◌≤◌, inl, inr, Option, Some, None, List, [], ◌∷◌, length, slice_get, arith}
-use Rattle.std.specs.Prelude.{◌⊎◌, sum_by}
-use Rattle.il_core.specs.Checked.{FitsAt}
+use Rattle.std.proofs.Common.{◌≡◌, sym, ap, ◌∙◌, subst, ℕ, ◌+◌, ◌<◌, ◌≤◌, inl, inr, Option, Some, None, List, ◌∷◌, length, slice_get, arith}
 use Rattle.il_core.specs.Evaluation.{State, value_at}
 use Rattle.il_core.specs.Expression.{Expression}
 use Rattle.il_core.specs.Procedure.{Instruction, end_procedure}
@@ -10,7 +8,7 @@ use Rattle.il_core.specs.declared.line.Halt.{Halt}
 use Rattle.il_core.specs.declared.line.Halt.TheVariants.{End}
 use Rattle.il_core.specs.declared.line.Place.{Place}
 use Rattle.il_called.specs.Called.{Passed, WrittenLine, own, call, WrittenProcedure}
-use Rattle.il_called.specs.Expansion.{Expansion, procedure_in, moved, inlined, variables_in, entry_width, handed_back, start_of, base_of, own_place, brings, origin_at}
+use Rattle.il_called.specs.Expansion.{procedure_in, moved, variables_in, entry_width, handed_back, start_of, base_of, own_place, origin_at}
 use Rattle.il_inline.specs.Stack.{Frame, Turn, halts, Handed, all_back, returned_to, returned_from, ended}
 use Rattle.il_inline.proofs.Known.{made}
 use Rattle.il_inline.proofs.Sizes.{length_lines}
@@ -23,7 +21,7 @@ use Rattle.il_runs.proofs.Exit.{LeftAt, Leaving, exit_run}
 use Rattle.il_runs.proofs.Fit.{begins_before}
 use Rattle.il_runs.proofs.Inouts.{places_count}
 use Rattle.il_runs.proofs.Numbers.{own_outside, wide_length}
-use Rattle.il_runs.proofs.Own.{Here, OwnLine, own_line, stack_of, halts_at}
+use Rattle.il_runs.proofs.Own.{Here, OwnLine, own_line, halts_at}
 use Rattle.il_runs.proofs.Asserted.{LeavesAlike}
 use Rattle.il_runs.proofs.Seat.{Seat, expansion_at, place_in, line_in, own_in, start_in, IsSeat, called_seat, CallKnown}
 use Rattle.il_runs.proofs.Walk.{steps_in_range}

@@ -1,18 +1,18 @@
 -- Where the expansion of a procedure that runs stands in the expansion of the first procedure.
-use Rattle.std.proofs.Common.{◌≡◌, ℕ, ◌+◌, ◌<◌, ◌≤◌, inl, inr, Bool, true, false, List, ◌++◌, drop, length, refl, sym, ap, ◌∙◌, subst, arith}
-use Rattle.std.specs.Prelude.{◌⊎◌, slice_get, Some}
+use Rattle.std.proofs.Common.{◌≡◌, ℕ, ◌+◌, Bool, true, false, List, ◌++◌, drop, length, refl, sym, ap, ◌∙◌, arith}
+use Rattle.std.specs.Prelude.{slice_get, Some}
 use Rattle.il_core.specs.Procedure.{Instruction}
 use Rattle.il_core.specs.declared.line.Place.{Place}
 use Rattle.il_called.specs.Called.{Passed, call, WrittenProcedure, WrittenText}
 use Rattle.il_called.specs.CalledText.{IsCalledText}
-use Rattle.il_called.specs.Expansion.{Callee, Expansion, inlined, entry_width, start_of, base_of, own_place, call_number, brought, variables_in, each_from, places_of, expansion_of}
+use Rattle.il_called.specs.Expansion.{Callee, Expansion, entry_width, start_of, base_of, own_place, call_number, brought, variables_in, each_from, places_of, expansion_of}
 use Rattle.il_called.specs.declared.called.Origin.{Origin}
 use Rattle.il_inline.specs.Calls.{CallFits}
-use Rattle.il_inline.proofs.Known.{made, Known, KnownBefore, known_before}
+use Rattle.il_inline.proofs.Known.{made, Known, known_before}
 use Rattle.il_inline.proofs.Shape.{line_calls}
 use Rattle.il_inline.proofs.Texts.{kept_left}
 use Rattle.il_inline.proofs.Together.{HasOrigins, origins_before}
-use Rattle.il_runs.specs.Moved.{IsAlike, IsAmong, Stand}
+use Rattle.il_runs.specs.Moved.{IsAmong, Stand}
 use Rattle.il_runs.proofs.Blocks.{CallSits, call_sits, place_sits}
 use Rattle.il_runs.proofs.Numbers.{own_apart, own_there}
 use Rattle.il_runs.proofs.Renumber.{placed, inlined_twice, moved_itself}

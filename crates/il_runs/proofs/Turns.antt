@@ -1,18 +1,17 @@
 -- Each turn of the stack machine is simulated by the expanded run.
-use Rattle.std.proofs.Common.{◌≡◌, refl, sym, ap, ◌∙◌, subst, ℕ, Option, Some, None, List, [], ◌∷◌, slice_get}
+use Rattle.std.proofs.Common.{◌≡◌, sym, ap, ◌∙◌, subst, ℕ, Option, Some, None, List, [], ◌∷◌, slice_get}
 use Rattle.il_core.specs.Evaluation.{State}
-use Rattle.il_core.specs.Expression.{Expression}
-use Rattle.il_core.specs.Procedure.{Instruction, end_procedure}
+use Rattle.il_core.specs.Procedure.{Instruction}
 use Rattle.il_core.specs.declared.line.Halt.TheVariants.{End}
 use Rattle.il_called.specs.Called.{Passed, WrittenLine, own, call, WrittenProcedure}
 use Rattle.il_called.specs.Expansion.{variables_in}
-use Rattle.il_inline.specs.Stack.{Frame, Stack, Turn, halts, called_with, variables_given, own_turn, line_turn, turn}
+use Rattle.il_inline.specs.Stack.{Frame, Stack, Turn, halts, called_with, variables_given, line_turn, turn}
 use Rattle.il_runs.proofs.Asserted.{IfLeaves, turn_of_own}
 use Rattle.il_runs.proofs.Call.{call_step}
 use Rattle.il_runs.proofs.Chain.{World, wide_of, Stands, Simulated}
 use Rattle.il_runs.proofs.Own.{Here, stack_of}
 use Rattle.il_runs.proofs.Return.{leaves}
-use Rattle.il_runs.proofs.Seat.{Seat, start_in, CallKnown, call_known}
+use Rattle.il_runs.proofs.Seat.{Seat, start_in, call_known}
 
 -- a turn, where the last frame's procedure and its line are there
 turn_is : (procs : List WrittenProcedure) (stack : Stack) (p : WrittenProcedure) (line : WrittenLine) → slice_get procs stack.last.procedure ≡ Some p

@@ -1,5 +1,5 @@
 -- Steps of an expanded procedure, one after the other.
-use Rattle.std.proofs.Common.{◌≡◌, refl, sym, ap, ◌∙◌, subst, ℕ, zero, suc, ◌+◌, List, slice_get, Some, arith}
+use Rattle.std.proofs.Common.{◌≡◌, refl, sym, ap, subst, ℕ, zero, suc, ◌+◌, slice_get, Some, arith}
 use Rattle.il_core.specs.Checked.{IsChecked}
 use Rattle.il_core.specs.Evaluation.{State}
 use Rattle.il_core.specs.Machine.{Step, goes, stepped, stepped_at, step}

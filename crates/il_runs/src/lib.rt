@@ -5,5 +5,6 @@
 mod laws;
 
 pub use laws::{
-    expanded_runs_alike, inlined_lines_step_alike, moved_lines_step_alike, renumbered_have_same_value,
+    expanded_runs_alike, inlined_lines_step_alike, moved_lines_step_alike,
+    renumbered_have_same_value,
 };
