@@ -1,3 +1,10 @@
 pub mod Renumbered
 pub mod Moves
 pub mod Assigned
+pub mod Found
+pub mod Filtered
+pub mod Starts
+pub mod Brought
+pub mod Ordered
+pub mod Lines
+pub mod Whole
