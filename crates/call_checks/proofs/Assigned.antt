@@ -1,9 +1,9 @@
 -- The assignments by which a call gives the callee's variables their first values, gives its OLD copies theirs and hands its parameters back.
-use Rattle.std.proofs.Common.{◌≡◌, ◌≢◌, refl, sym, ap, ◌∙◌, subst, ℕ, zero, suc, ◌+◌, ◌<◌, Bool, true, false, cond, Some, None, List, [], ◌∷◌, ◌++◌, length, slice_get, arith}
+use Rattle.std.proofs.Common.{◌≡◌, refl, sym, ap, subst, ℕ, zero, suc, ◌+◌, ◌<◌, Bool, true, false, cond, Some, None, List, [], ◌∷◌, ◌++◌, slice_get, arith}
 use Rattle.std.specs.Prelude.{filter, Option}
 use Rattle.std.proofs.lemmas.Option.{same_Some}
-use Rattle.il_core.specs.Bounds.{AreSmall, IsNarrow, place_bounds}
-use Rattle.il_core.specs.Checked.{FitsAt, IsSoundAssignment, Suits}
+use Rattle.il_core.specs.Bounds.{AreSmall, place_bounds}
+use Rattle.il_core.specs.Checked.{FitsAt, IsSoundAssignment}
 use Rattle.il_core.specs.Expression.{Expression, number, variable, flag, truth}
 use Rattle.il_core.specs.Kind.{HasFlag}
 use Rattle.il_core.specs.Procedure.{Instruction, pre, assign, if_true, otherwise, end_if, loop, end_loop, exit, exit_when, label, goto, skip, assert, return, end_procedure}
@@ -12,8 +12,8 @@ use Rattle.il_core.specs.declared.statement.Mode.{Mode}
 use Rattle.il_core.specs.declared.statement.Mode.TheVariants.{Input, InOut, Output, Local}
 use Rattle.il_called.specs.Called.{Passed, value, variable_of}
 use Rattle.il_called.specs.CalledText.{Suit}
-use Rattle.il_called.specs.Expansion.{renumbered, is_parameter, is_returned, is_read, read_as, read_at, least_of, left_behind, argument_value, first_value, entered, copied, back_to, handed_back}
-use Rattle.il_runs.specs.Moved.{IsAlike, IsAmong}
+use Rattle.il_called.specs.Expansion.{renumbered, is_parameter, read_as, read_at, least_of, left_behind, argument_value, first_value, entered, copied, back_to, handed_back}
+use Rattle.il_runs.specs.Moved.{IsAmong}
 use Rattle.call_checks.specs.WellFormed.{HaveSmallRanges, IsHandedTo, AreArguments}
 use Rattle.call_checks.proofs.Renumbered.{Among, Gives, gives_kept, flag_among, bounds_among}
 use Rattle.call_checks.proofs.Moves.{IsOpen, open_assigned}

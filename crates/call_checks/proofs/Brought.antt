@@ -1,27 +1,25 @@
 -- The places of an expansion: the procedure's own ones, and those that its calls bring.
-use Rattle.std.proofs.Common.{◌≡◌, ◌≢◌, refl, sym, ap, ◌∙◌, subst, ℕ, zero, suc, ◌+◌, ◌-◌, ◌<◌, ◌≤◌, false, inl, inr, Option, Some, None, List, [], ◌∷◌, ◌++◌, length, map, drop, slice_get, arith}
+use Rattle.std.proofs.Common.{◌≡◌, ◌≢◌, refl, sym, ap, ◌∙◌, subst, ℕ, ◌+◌, ◌-◌, false, Option, Some, None, List, [], ◌++◌, length, map, drop, slice_get, arith}
 use Rattle.std.specs.Prelude.{filter}
 use Rattle.std.proofs.lemmas.List.{length-append, length-drop}
-use Rattle.std.proofs.lemmas.Option.{slice_get_within}
-use Rattle.il_core.specs.Checked.{HasRange, AreInOrder, old_copy, is_copied}
+use Rattle.il_core.specs.Checked.{HasRange, old_copy, is_copied}
 use Rattle.il_core.specs.Run.{inout_from}
 use Rattle.il_core.specs.declared.line.Place.{Place}
 use Rattle.il_core.specs.declared.statement.Mode.TheVariants.{Input, Local}
 use Rattle.il_called.specs.Called.{Passed, WrittenLine, own, call, WrittenProcedure}
 use Rattle.il_called.specs.Expansion.{Callee, variables_in, base_of, own_place, each_from, places_of, expansion_of, brought, call_number}
 use Rattle.il_inline.specs.Calls.{CallFits, AllCall}
-use Rattle.il_inline.proofs.Shape.{ComesFrom, each_member, behind}
-use Rattle.il_inline.proofs.Texts.{kept_left, all_call, there}
+use Rattle.il_inline.proofs.Shape.{each_member, behind}
+use Rattle.il_inline.proofs.Texts.{kept_left, all_call}
 use Rattle.il_runs.specs.Moved.{IsAmong}
 use Rattle.il_runs.proofs.Blocks.{front, dropped, place_sits}
 use Rattle.il_runs.proofs.Inouts.{HasCopy, has_copy, places_count}
 use Rattle.il_runs.proofs.Numbers.{own_there}
 use Rattle.call_checks.specs.Laws.{IsCallable, AreCallable}
-use Rattle.call_checks.specs.WellFormed.{IsWellFormed, IsSoundCall}
-use Rattle.call_checks.proofs.Assigned.{Caller, IsBrought, AreBrought, IsRecalled}
-use Rattle.call_checks.proofs.Found.{Mapped, mapped, parted}
+use Rattle.call_checks.specs.WellFormed.{IsWellFormed}
+use Rattle.call_checks.proofs.Assigned.{Caller, AreBrought, IsRecalled}
+use Rattle.call_checks.proofs.Found.{mapped}
 use Rattle.call_checks.proofs.Moves.{IsOpen}
-use Rattle.call_checks.proofs.Renumbered.{Among}
 
 -- the calls fit
 pub call_fits : (callees : List Callee) (p : WrittenProcedure) → AreCallable callees → IsWellFormed callees p → (n c : ℕ) (arguments : List Passed)

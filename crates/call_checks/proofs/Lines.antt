@@ -1,28 +1,27 @@
 -- Each line of an expansion fits where it stands.
-use Rattle.std.proofs.Common.{◌≡◌, ◌≢◌, refl, sym, ap, ◌∙◌, subst, ℕ, zero, suc, ◌+◌, ◌-◌, ◌<◌, inl, inr, Option, Some, None, List, [], ◌∷◌, ◌++◌, length, map, slice_get, arith}
+use Rattle.std.proofs.Common.{◌≡◌, ◌≢◌, refl, sym, ap, ◌∙◌, subst, ℕ, zero, suc, ◌+◌, ◌-◌, ◌<◌, inl, inr, Option, Some, None, List, [], ◌++◌, length, slice_get, arith}
 use Rattle.std.specs.Prelude.{sum_by}
 use Rattle.std.specs.Option.{option_map}
 use Rattle.std.proofs.lemmas.List.{length-append, length-map}
 use Rattle.std.proofs.lemmas.Option.{same_Some, slice_get-map, slice_get_within}
-use Rattle.il_core.specs.Checked.{FitsAt, IsTarget, HasRange}
+use Rattle.il_core.specs.Checked.{FitsAt}
 use Rattle.il_core.specs.Expression.{Expression}
 use Rattle.il_core.specs.Procedure.{Instruction, pre, skip, end_procedure}
 use Rattle.il_core.specs.Run.{inout_from}
 use Rattle.il_core.specs.declared.line.Place.{Place}
 use Rattle.il_called.specs.Called.{Passed, WrittenLine, own, call, WrittenProcedure}
 use Rattle.il_called.specs.CalledText.{parameters_of}
-use Rattle.il_called.specs.Expansion.{Callee, procedure_in, moved, inlined, variables_in, entered, copied, body_of, entry_of, exit_of, entry_width, call_lines, width_of, start_of, base_of, own_place, lines_of, expansion_of}
+use Rattle.il_called.specs.Expansion.{Callee, moved, inlined, variables_in, entered, copied, body_of, entry_of, exit_of, entry_width, call_lines, width_of, start_of, base_of, own_place, lines_of, expansion_of}
 use Rattle.il_inline.specs.Calls.{CallFits, AllCall}
 use Rattle.il_inline.proofs.Held.{width_held}
 use Rattle.il_inline.proofs.Shape.{line_calls, start_next}
 use Rattle.il_inline.proofs.Sizes.{length_entered, length_copied, length_line, length_lines}
-use Rattle.il_runs.proofs.Blocks.{own_sits}
 use Rattle.call_checks.specs.Laws.{IsCallable, AreCallable}
 use Rattle.call_checks.specs.WellFormed.{IsWellFormed, IsSoundCall, AreArguments, uncalled, without_calls}
 use Rattle.call_checks.proofs.Assigned.{AllAssign, assigned_fits, assign_both, Caller, caller_among, entered_sound, copied_sound, handed_sound}
 use Rattle.call_checks.proofs.Brought.{call_fits, calls_fit, own_places, Brings, call_brings, variables_brought, copies_brought}
-use Rattle.call_checks.proofs.Found.{Later, parted, Mapped, mapped, FoundAt, found_at}
-use Rattle.call_checks.proofs.Moves.{IsOpen, Moves, moved_fits, inlined_fits}
+use Rattle.call_checks.proofs.Found.{Later, parted, mapped, found_at}
+use Rattle.call_checks.proofs.Moves.{Moves, moved_fits, inlined_fits}
 use Rattle.call_checks.proofs.Starts.{start_zero, start_all, start_below, start_target}
 
 -- a line that is none of a call is one of the procedure's own

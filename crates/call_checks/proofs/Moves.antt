@@ -1,5 +1,5 @@
 -- A line that fits in its procedure fits where it is moved, and where it is inlined.
-use Rattle.std.proofs.Common.{◌≡◌, ◌≢◌, ℕ, ◌+◌, ◌<◌, sym, ◌∙◌, subst, false, Some, List, slice_get, arith}
+use Rattle.std.proofs.Common.{◌≡◌, ◌≢◌, ℕ, ◌+◌, ◌<◌, sym, subst, false, Some, List, slice_get}
 use Rattle.il_core.specs.Checked.{FitsAt, IsTarget, IsSoundAssignment, Suits}
 use Rattle.il_core.specs.Expression.{Expression}
 use Rattle.il_core.specs.Procedure.{Instruction, pre, assign, if_true, otherwise, end_if, loop, end_loop, exit, exit_when, label, goto, skip, assert, return, end_procedure}

@@ -1,5 +1,5 @@
 -- The places of an expansion have ranges and stand in order.
-use Rattle.std.proofs.Common.{◌≡◌, refl, sym, ap, ◌∙◌, subst, ℕ, ◌+◌, Bool, true, false, inl, inr, Some, List, [], ◌∷◌, ◌++◌, length, map, drop, slice_get, append-nil, arith}
+use Rattle.std.proofs.Common.{◌≡◌, sym, ap, ◌∙◌, ℕ, ◌+◌, inl, inr, Some, List, [], ◌++◌, length, map, drop, slice_get, append-nil}
 use Rattle.std.specs.Prelude.{filter, not}
 use Rattle.std.proofs.lemmas.List.Elements.{filter-append}
 use Rattle.il_core.specs.Checked.{HasRange, AreInOrder, old_copy, is_copied}

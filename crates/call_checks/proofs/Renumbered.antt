@@ -1,7 +1,6 @@
 -- An expression that is renumbered over places of the same kinds and ranges is as well typed and as narrow as before.
 use Rattle.std.proofs.Common.{◌≡◌, refl, sym, ap, ◌∙◌, subst, ℕ, ◌<◌, Bool, true, false, Some, None, List, length, slice_get}
 use Rattle.std.specs.Prelude.{ℤ, neg_ℤ, Option}
-use Rattle.std.proofs.lemmas.Option.{slice_get_within}
 use Rattle.il_core.specs.Bounds.{Bounds, AreSmall, IsNarrow, bounds_of, operator_bounds, place_bounds}
 use Rattle.il_core.specs.Checked.{IsSoundCondition, Suits}
 use Rattle.il_core.specs.Expression.{Expression, number, variable, flag, truth, minus, opposite, two}
@@ -11,7 +10,7 @@ use Rattle.il_core.specs.declared.operator.BinOp.TheVariants.{Add, Sub, Mul, Div
 use Rattle.il_called.specs.Expansion.{renumbered}
 use Rattle.il_inline.specs.Within.{NamesBelow}
 use Rattle.il_inline.proofs.Texts.{there}
-use Rattle.il_runs.specs.Moved.{IsAlike, IsAmong}
+use Rattle.il_runs.specs.Moved.{IsAmong}
 use Rattle.il_runs.proofs.Fit.{condition_named, suits_named}
 
 -- each place stands among the wide ones under its new number

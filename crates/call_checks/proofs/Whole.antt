@@ -1,13 +1,12 @@
 -- The expansion of a well-formed procedure is checked, and so are those of a whole text.
-use Rattle.std.proofs.Common.{◌≡◌, refl, sym, ap, ◌∙◌, subst, ℕ, zero, suc, ◌+◌, ◌≤◌, inl, inr, Some, List, [], ◌∷◌, ◌++◌, length, take, slice_get, arith}
+use Rattle.std.proofs.Common.{◌≡◌, refl, sym, ap, ◌∙◌, subst, ℕ, zero, suc, ◌+◌, inl, inr, Some, List, [], ◌∷◌, ◌++◌, length, take, slice_get, arith}
 use Rattle.std.proofs.lemmas.Option.{same_Some}
 use Rattle.il_core.specs.Checked.{IsChecked}
 use Rattle.il_core.specs.Expression.{Expression}
 use Rattle.il_core.specs.Procedure.{pre, end_procedure}
-use Rattle.il_called.specs.Called.{own, WrittenProcedure}
-use Rattle.il_called.specs.Expansion.{Callee, procedure_in, renumbered, moved, width_of, start_of, own_place, each_from, places_of, expansion_of, callees_behind, callees_of}
+use Rattle.il_called.specs.Called.{WrittenProcedure}
+use Rattle.il_called.specs.Expansion.{Callee, procedure_in, renumbered, start_of, own_place, each_from, places_of, expansion_of, callees_behind, callees_of}
 use Rattle.il_inline.proofs.Known.{made}
-use Rattle.il_inline.proofs.Shape.{start_next}
 use Rattle.il_inline.proofs.Sizes.{lines_within}
 use Rattle.il_inline.proofs.Texts.{at_last, behind_keeps}
 use Rattle.il_runs.proofs.Blocks.{own_sits}

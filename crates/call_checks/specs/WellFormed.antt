@@ -9,7 +9,7 @@ use Rattle.il_core.specs.declared.line.Place.{Place}
 use Rattle.il_core.specs.declared.statement.Mode.TheVariants.{Input}
 use Rattle.il_called.specs.Called.{Passed, value, variable_of, WrittenLine, own, call, WrittenProcedure}
 use Rattle.il_called.specs.CalledText.{Suit, parameters_of}
-use Rattle.il_called.specs.Expansion.{Callee, procedure_in, callees_of}
+use Rattle.il_called.specs.Expansion.{Callee, callees_of}
 
 -- a procedure with a SKIP for each call
 abbrev pub uncalled : WrittenLine → Instruction
