@@ -8,3 +8,5 @@ pub mod Brought
 pub mod Ordered
 pub mod Lines
 pub mod Whole
+pub mod Earlier
+pub mod Worked

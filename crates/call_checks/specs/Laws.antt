@@ -1,8 +1,10 @@
--- The expansion of a well-formed procedure is a checked procedure, where it keeps within the limits.
-use Rattle.std.specs.Prelude.{◌≡◌, ℕ, List, ◌++◌, length, drop, slice_get, Some}
+-- The expansion of a well-formed procedure is a checked procedure, where it keeps within the limits; and a text of such procedures is checked.
+use Rattle.std.specs.Prelude.{◌≡◌, ◌≤◌, ℕ, List, ◌++◌, length, drop, slice_get, Some}
 use Rattle.il_core.specs.Checked.{IsChecked, AreInOrder}
+use Rattle.il_core.specs.LineGraph.{IsIn}
 use Rattle.il_core.specs.declared.line.Place.{Place}
-use Rattle.il_called.specs.Called.{WrittenProcedure}
+use Rattle.il_called.specs.Called.{Passed, call, WrittenProcedure, WrittenText}
+use Rattle.il_called.specs.CalledText.{AreApart, IsCalledText, returned_to}
 use Rattle.il_called.specs.Expansion.{Callee, procedure_in, variables_in, expansion_of, callees_of}
 use Rattle.call_checks.specs.WellFormed.{HaveSmallRanges, IsWellFormed, AreWellFormed, KeepsLimits}
 
@@ -27,3 +29,19 @@ abbrev pub TextsAreChecked : Type 0
 TextsAreChecked = (procs : List WrittenProcedure) → AreWellFormed procs
     → ((k : ℕ) (callee : Callee) → slice_get (callees_of procs) k ≡ Some callee → KeepsLimits callee)
     → (k : ℕ) (callee : Callee) → slice_get (callees_of procs) k ≡ Some callee → IsChecked (procedure_in callee.expanded)
+
+-- a text of well-formed procedures that keep within the limits, with no variable handed back to twice by one call, and with short names
+pub record IsWellFormedText (t : WrittenText) : Type 0 where
+  pub some_procedures : 1 ≤ length t.procs
+  pub few_procedures : length t.procs ≤ 64
+  pub low_profile : 1 ≤ t.profile
+  pub high_profile : t.profile ≤ 2
+  pub formed : AreWellFormed t.procs
+  pub limits : (k : ℕ) (callee : Callee) → slice_get (callees_of t.procs) k ≡ Some callee → KeepsLimits callee
+  pub apart : (k n c : ℕ) (p : WrittenProcedure) (arguments : List Passed) → slice_get t.procs k ≡ Some p → slice_get p.lines n ≡ Some (call c arguments)
+      → AreApart (returned_to arguments)
+  pub names : (k : ℕ) (callee : Callee) (place : Place) → slice_get (callees_of t.procs) k ≡ Some callee → IsIn callee.expanded.places place → length place.name ≤ 40
+
+-- such a text is a checked text with calls
+abbrev pub WellFormedAreChecked : Type 0
+WellFormedAreChecked = (t : WrittenText) → IsWellFormedText t → IsCalledText t
