@@ -1,9 +1,9 @@
 -- The calls of a text of well-formed procedures name earlier procedures.
-use Rattle.std.proofs.Common.{◌≡◌, refl, sym, ap, ◌∙◌, subst, ℕ, zero, suc, ◌+◌, ◌<◌, ◌≤◌, Some, List, [], ◌∷◌, ◌++◌, length, map, take, slice_get, append-nil, append_assoc, arith}
+use Rattle.std.proofs.Common.{◌≡◌, sym, ap, ◌∙◌, ℕ, zero, suc, Some, List, [], ◌∷◌, ◌++◌, length, map, take, slice_get, append-nil, append_assoc, arith}
 use Rattle.std.specs.Option.{option_map}
 use Rattle.std.proofs.lemmas.List.{length-take-le, map-append}
 use Rattle.std.proofs.lemmas.Option.{slice_get-map, slice_get_within}
-use Rattle.il_called.specs.Called.{Passed, call, WrittenProcedure, WrittenText}
+use Rattle.il_called.specs.Called.{WrittenProcedure, WrittenText}
 use Rattle.il_called.specs.CalledText.{CallsFit, IsCalledText}
 use Rattle.il_called.specs.Expansion.{Callee, callees_behind, callees_of}
 use Rattle.il_inline.proofs.Known.{made, count_callees}

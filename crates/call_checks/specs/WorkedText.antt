@@ -1,6 +1,6 @@
 -- The worked text is well formed: `inc`, which adds 1 to a variable, and `p`, which calls it with its own variable. A caller that gives `inc` an
 -- IN variable is not, nor is one that names no earlier procedure.
-use Rattle.std.specs.Prelude.{ℕ, pos, true, false, List, [], ◌∷◌, codes}
+use Rattle.std.specs.Prelude.{ℕ, pos, true, false, [], ◌∷◌, codes}
 use Rattle.il_core.specs.Expression.{truth}
 use Rattle.il_core.specs.Procedure.{pre, end_procedure}
 use Rattle.il_core.specs.declared.statement.Mode.TheVariants.{Input}
