@@ -20,12 +20,12 @@ written_behind before (p ∷ ps) =
     let it = made before (length before) p in
     written_behind (before ++ it ∷ []) ps ∙ ap (λ l. l ++ ps) (map-append written_in before (it ∷ [])) ∙ append_assoc (map written_in before) (p ∷ []) ps
 
-written_there : (procs : List WrittenProcedure) (c : ℕ) (y : Callee) → slice_get (callees_of procs) c ≡ Some y → slice_get procs c ≡ Some y.written
+pub written_there : (procs : List WrittenProcedure) (c : ℕ) (y : Callee) → slice_get (callees_of procs) c ≡ Some y → slice_get procs c ≡ Some y.written
 unfolding callees_of
 written_there procs c y e =
     ap (λ (l : List WrittenProcedure). slice_get l c) (sym (written_behind [] procs)) ∙ slice_get-map written_in (callees_behind [] procs) c ∙ ap (option_map written_in) e
 
-taken : {X : Type 0} (k : ℕ) (xs : List X) (c : ℕ) (x : X) → slice_get (take k xs) c ≡ Some x → slice_get xs c ≡ Some x
+pub taken : {X : Type 0} (k : ℕ) (xs : List X) (c : ℕ) (x : X) → slice_get (take k xs) c ≡ Some x → slice_get xs c ≡ Some x
 taken zero xs c x e = grind arith
 taken (suc k) [] c x e = grind arith
 taken (suc k) (y ∷ xs) zero x e = e

@@ -10,3 +10,4 @@ pub mod Lines
 pub mod Whole
 pub mod Earlier
 pub mod Worked
+pub mod Few

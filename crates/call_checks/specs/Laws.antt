@@ -1,9 +1,10 @@
 -- The expansion of a well-formed procedure is a checked procedure, where it keeps within the limits; and a text of such procedures is checked.
-use Rattle.std.specs.Prelude.{◌≡◌, ◌≤◌, ℕ, List, ◌++◌, length, drop, slice_get, Some}
+use Rattle.std.specs.Prelude.{◌≡◌, ◌≤◌, ℕ, List, ◌++◌, length, drop, take, slice_get, Some}
 use Rattle.il_core.specs.Checked.{IsChecked, AreInOrder}
 use Rattle.il_core.specs.LineGraph.{IsIn}
+use Rattle.il_core.specs.Procedure.{Instruction}
 use Rattle.il_core.specs.declared.line.Place.{Place}
-use Rattle.il_called.specs.Called.{Passed, call, WrittenProcedure, WrittenText}
+use Rattle.il_called.specs.Called.{Passed, own, call, WrittenProcedure, WrittenText}
 use Rattle.il_called.specs.CalledText.{AreApart, IsCalledText, returned_to}
 use Rattle.il_called.specs.Expansion.{Callee, procedure_in, variables_in, expansion_of, callees_of}
 use Rattle.call_checks.specs.WellFormed.{HaveSmallRanges, IsWellFormed, AreWellFormed, KeepsLimits}
@@ -45,3 +46,15 @@ pub record IsWellFormedText (t : WrittenText) : Type 0 where
 -- such a text is a checked text with calls
 abbrev pub WellFormedAreChecked : Type 0
 WellFormedAreChecked = (t : WrittenText) → IsWellFormedText t → IsCalledText t
+
+abbrev pub BeginsOwn : WrittenProcedure → Type 0
+BeginsOwn p = (i : Instruction) × (slice_get p.lines 0 ≡ Some (own i))
+
+abbrev pub CallsEarlier : List Callee → WrittenProcedure → Type 0
+CallsEarlier callees p = (n c : ℕ) (arguments : List Passed) → slice_get p.lines n ≡ Some (call c arguments) → (callee : Callee) × (slice_get callees c ≡ Some callee)
+
+-- a procedure that calls earlier ones keeps within the limits itself where its expansion does, in a text whose procedures each begin with an own line
+abbrev pub WrittenKeepLimits : Type 0
+WrittenKeepLimits = (procs : List WrittenProcedure) → ((k : ℕ) (p : WrittenProcedure) → slice_get procs k ≡ Some p → BeginsOwn p)
+    → ((k : ℕ) (callee : Callee) → slice_get (callees_of procs) k ≡ Some callee → KeepsLimits callee)
+    → (k : ℕ) (p : WrittenProcedure) → slice_get procs k ≡ Some p → CallsEarlier (callees_of (take k procs)) p → (length p.lines ≤ 1000) × (length p.places ≤ 64)

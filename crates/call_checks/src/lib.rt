@@ -4,4 +4,7 @@
 
 mod laws;
 
-pub use laws::{expansions_are_checked, texts_are_checked, well_formed_are_checked, worked_text};
+pub use laws::{
+    expansions_are_checked, texts_are_checked, well_formed_are_checked, worked_text,
+    written_keep_limits,
+};
