@@ -1,11 +1,11 @@
 ghost use Rattle.std.specs.Prelude.{◌≡◌, ◌+◌, ◌≤◌, ◌<◌, ◌^◌, IfSome};
 ghost use Rattle.std.specs.List.{All};
 ghost use Rattle.il_core.specs.Statement.{statement_of};
-ghost use Rattle.il_called.specs.Expansion.{is_returned};
 ghost use Rattle.call_limits.specs.Measures.{IsSmall, no_extent, with_call, extent_behind, excess};
 
 use crate::measures::{Measures, called};
-use il_core::{Code, Form, Mode};
+use call_rules::is_returned;
+use il_core::{Code, Form};
 use il_types::{Counts, Found, Setting, is_line, too_many};
 
 /// What counts of the latest procedure, as far as its statements have been gone through.
@@ -27,18 +27,6 @@ pub(crate) fn no_extent() -> Extent
         lines: 0,
         returned: 0,
         brought: 0,
-    }
-}
-
-/// Whether a variable of a mode is handed back.
-fn is_returned(mode: Mode) -> bool
-    ensures { result ≡ is_returned mode }
-{
-    match mode {
-        Mode::Input => false,
-        Mode::InOut => true,
-        Mode::Output => true,
-        Mode::Local => false,
     }
 }
 

@@ -17,7 +17,7 @@ use il_types::{
 };
 
 /// Whether a parameter of a mode is assigned back.
-fn is_returned(mode: Mode) -> bool
+pub fn is_returned(mode: Mode) -> bool
     ensures { result ≡ is_returned mode }
 {
     match mode {

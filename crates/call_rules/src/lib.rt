@@ -11,7 +11,7 @@ mod parameters;
 mod rules;
 
 pub use callee::{parameters_named, procedure_named};
-pub use calls::back_to;
+pub use calls::{back_to, is_returned};
 pub use laws::{one_answer, worked_rules};
 pub use parameters::{Parameter, Parameters};
 pub use rules::first_of_call_rules;
