@@ -28,14 +28,15 @@ pub record IsLongest (places : List Place) (longest : Option ℕ) : Type 0 where
   pub each : (front : ℕ) → are_short_behind front places ≡ is_short_behind front longest
 
 -- a table of the longest names of procedures that may be called
-pub record AreLongest (callees : List Callee) (table : List (Option ℕ)) : Type 0 where
-  pub size : length table ≡ length callees
-  pub each : (j : ℕ) (callee : Callee) (longest : Option ℕ) → slice_get callees j ≡ Some callee → slice_get table j ≡ Some longest
-      → IsLongest callee.expanded.places longest
+abbrev pub AreLongest : List Callee → List (Option ℕ) → Type 0
+AreLongest [] [] = Unit {0}
+AreLongest [] (o ∷ os) = ⊥
+AreLongest (c ∷ cs) [] = ⊥
+AreLongest (c ∷ cs) (o ∷ os) = IsLongest c.expanded.places o × AreLongest cs os
 
 -- how many bytes the call of a number puts in front of a name: a letter, its number and an underscore
 abbrev pub front_length : ℕ → ℕ
-front_length call = length (decimal call) + 2
+front_length k = length (decimal k) + 2
 
 abbrev pub with_front : ℕ → ℕ → ℕ
 with_front front longest = if nat_le longest 40 then front + longest else longest

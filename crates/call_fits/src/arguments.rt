@@ -1,12 +1,12 @@
 //! What a call gives to the parameters of its procedure.
-ghost use Rattle.std.specs.Prelude.{◌≡◌, ◌≤◌, drop, map, slice_get, filter_map, length};
+ghost use Rattle.std.specs.Prelude.{◌≡◌, ◌+◌, ◌≤◌, ◌<◌, map, slice_get, filter_map, length, nat_eq};
 ghost use Rattle.std.specs.Cmp.Lexicographic.{pointwise};
 ghost use Rattle.std.specs.List.{list_all, list_any};
-ghost use Rattle.std.specs.Prelude.{nat_eq};
 ghost use Rattle.il_core.specs.Tree.{tree_of};
 ghost use Rattle.call_rules.specs.Callee.{paired, pairings};
 ghost use Rattle.call_rules.specs.Calls.{back_to};
 ghost use Rattle.call_rules.specs.Fits.{is_suited, are_apart, fit_parameters};
+ghost use Rattle.call_fits.specs.Apart.{names_left, is_same, stands_in};
 
 use call_rules::{Parameter, back_to, is_returned};
 use il_core::{Name, RawExpr};
@@ -40,6 +40,16 @@ fn are_suited(parameters: &[Parameter], arguments: &[RawExpr]) -> bool
     true
 }
 
+/// Whether a parameter is handed back to the variable of a name.
+fn is_given(parameter: Option<Parameter>, argument: &RawExpr, name: &Name) -> bool
+    ensures { result ≡ is_same name.now (back_to (paired parameter (tree_of argument.now))) }
+{
+    match back_to(parameter, argument) {
+        None => false,
+        Some(other) => *name == other,
+    }
+}
+
 /// Whether a parameter from number `from` on is handed back to the variable of a name.
 fn is_given_from(
     parameters: &[Parameter],
@@ -48,16 +58,30 @@ fn is_given_from(
     name: &Name,
 ) -> bool
     requires { from ≤ length arguments.now }
-    ensures { result ≡ list_any (pointwise nat_eq name.now) (filter_map back_to (pairings (drop from parameters.now) (map tree_of (drop from arguments.now)))) }
+    ensures { result ≡ list_any (pointwise nat_eq name.now) (names_left parameters.now arguments.now from) }
 {
     for k in from..arguments.len() {
-        if let Some(other) = back_to(parameter_at(parameters, k), &arguments[k]) {
-            if *name == other {
-                return true;
-            }
+        if is_given(parameter_at(parameters, k), &arguments[k], name) {
+            return true;
         }
     }
     false
+}
+
+/// Whether the variable to which parameter `at` is handed back is given to a later one too.
+fn is_given_again(
+    parameters: &[Parameter],
+    arguments: &[RawExpr],
+    at: usize,
+    argument: &RawExpr,
+) -> bool
+    requires { at < length arguments.now }
+    ensures { result ≡ stands_in (back_to (paired (slice_get parameters.now at) (tree_of argument.now))) (names_left parameters.now arguments.now (at + 1)) }
+{
+    match back_to(parameter_at(parameters, at), argument) {
+        None => false,
+        Some(name) => is_given_from(parameters, arguments, at + 1, &name),
+    }
 }
 
 /// Whether no two parameters are handed back to one variable. The time is the square of the number of arguments.
@@ -65,10 +89,8 @@ fn are_apart(parameters: &[Parameter], arguments: &[RawExpr]) -> bool
     ensures { result ≡ are_apart (filter_map back_to (pairings parameters.now (map tree_of arguments.now))) }
 {
     for (k, argument) in arguments.iter().enumerate() {
-        if let Some(name) = back_to(parameter_at(parameters, k), argument) {
-            if is_given_from(parameters, arguments, k + 1, &name) {
-                return false;
-            }
+        if is_given_again(parameters, arguments, k, argument) {
+            return false;
         }
     }
     true

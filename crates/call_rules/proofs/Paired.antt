@@ -40,7 +40,7 @@ first_paired : (ps : List Parameter) (t : Tree) (ts : List Tree) → pairings ps
 first_paired [] t ts = refl
 first_paired (p ∷ ps) t ts = refl
 
-pairings_next : (ps : List Parameter) (k : ℕ) (t : Tree) (ts : List Tree) → pairings (drop k ps) (t ∷ ts) ≡ paired (slice_get ps k) t ∷ pairings (drop (k + 1) ps) ts
+pub pairings_next : (ps : List Parameter) (k : ℕ) (t : Tree) (ts : List Tree) → pairings (drop k ps) (t ∷ ts) ≡ paired (slice_get ps k) t ∷ pairings (drop (k + 1) ps) ts
 pairings_next ps k t ts =
     let later : suc k ≡ k + 1 = omega arith in
     first_paired (drop k ps) t ts
