@@ -2,7 +2,7 @@
 use Rattle.std.proofs.Common.{◌≡◌, ℕ, ◌+◌, ◌<◌, ◌≤◌, ◌∙◌, sym, ap, refl, Bool, true, false, ◌||◌, ◌&&◌, not, List, [], ◌∷◌, length, drop, get_or, nat_eq}
 use Rattle.std.specs.Prelude.{Option, Some, None, map, slice_get, filter_map}
 use Rattle.std.specs.Cmp.Lexicographic.{pointwise}
-use Rattle.std.specs.List.{list_any}
+use Rattle.std.specs.List.{list_any, cons_option}
 use Rattle.il_core.specs.Tree.{tree_of}
 use Rattle.il_core.specs.declared.statement.RawExpr.{RawExpr}
 use Rattle.call_rules.specs.declared.parameters.Parameter.{Parameter}
@@ -12,20 +12,11 @@ use Rattle.call_rules.specs.Fits.{are_apart}
 use Rattle.call_rules.proofs.Paired.{trees_next, trees_end, pairings_next}
 use Rattle.call_fits.specs.Apart.{names_left, is_same, stands_in}
 
-abbrev in_front : Option (List ℕ) → List (List ℕ) → List (List ℕ)
-in_front None names = names
-in_front (Some name) names = name ∷ names
-
 names_next : (ps : List Parameter) (es : List RawExpr) (k : ℕ) (e : RawExpr) → k < length es → e ≡ get_or es k e
-    → names_left ps es k ≡ in_front (back_to (paired (slice_get ps k) (tree_of e))) (names_left ps es (k + 1))
+    → names_left ps es k ≡ cons_option (back_to (paired (slice_get ps k) (tree_of e))) (names_left ps es (k + 1))
 names_next ps es k e h is =
     ap (λ ts. filter_map back_to (pairings (drop k ps) ts)) (trees_next es k e h is)
     ∙ ap (filter_map back_to) (pairings_next ps k (tree_of e) (map tree_of (drop (k + 1) es)))
-    ∙ by (back_to (paired (slice_get ps k) (tree_of e)))
-  where
-    by : (o : Option (List ℕ)) → elim o [ None ↦ names_left ps es (k + 1) | Some n ↦ n ∷ names_left ps es (k + 1) ] ≡ in_front o (names_left ps es (k + 1))
-    by None = refl
-    by (Some n) = refl
 
 pub names_end : (ps : List Parameter) (es : List RawExpr) (k : ℕ) → length es ≤ k → names_left ps es k ≡ []
 names_end ps es k h = ap (λ ts. filter_map back_to (pairings (drop k ps) ts)) (trees_end es k h)
@@ -35,7 +26,7 @@ given_next : (name : List ℕ) (ps : List Parameter) (es : List RawExpr) (k : �
     ≡ (is_same name (back_to (paired (slice_get ps k) (tree_of e))) || list_any (pointwise nat_eq name) (names_left ps es (k + 1)))
 given_next name ps es k e h is = ap (list_any (pointwise nat_eq name)) (names_next ps es k e h is) ∙ by (back_to (paired (slice_get ps k) (tree_of e)))
   where
-    by : (o : Option (List ℕ)) → list_any (pointwise nat_eq name) (in_front o (names_left ps es (k + 1)))
+    by : (o : Option (List ℕ)) → list_any (pointwise nat_eq name) (cons_option o (names_left ps es (k + 1)))
         ≡ (is_same name o || list_any (pointwise nat_eq name) (names_left ps es (k + 1)))
     by None = refl
     by (Some n) = refl
@@ -58,7 +49,7 @@ apart_next : (ps : List Parameter) (es : List RawExpr) (k : ℕ) (e : RawExpr) �
     ≡ (not (stands_in (back_to (paired (slice_get ps k) (tree_of e))) (names_left ps es (k + 1))) && are_apart (names_left ps es (k + 1)))
 apart_next ps es k e h is = ap are_apart (names_next ps es k e h is) ∙ by (back_to (paired (slice_get ps k) (tree_of e)))
   where
-    by : (o : Option (List ℕ)) → are_apart (in_front o (names_left ps es (k + 1))) ≡ (not (stands_in o (names_left ps es (k + 1))) && are_apart (names_left ps es (k + 1)))
+    by : (o : Option (List ℕ)) → are_apart (cons_option o (names_left ps es (k + 1))) ≡ (not (stands_in o (names_left ps es (k + 1))) && are_apart (names_left ps es (k + 1)))
     by None = refl
     by (Some n) = refl
 

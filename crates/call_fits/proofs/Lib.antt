@@ -1,3 +1,4 @@
 mod Apart
 mod Short
 mod Brought
+mod Named

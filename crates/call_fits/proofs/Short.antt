@@ -77,16 +77,17 @@ short_append n ps qs = list_all-append (λ (p : Place). nat_le (n + length p.nam
 -- OLD copies have the names of their variables
 pub copies_short : (n : ℕ) (vs : List Place) → are_short_behind n vs ≡ true → are_short_behind n (map old_copy (filter is_copied vs)) ≡ true
 copies_short n [] h = refl
-copies_short n (v ∷ vs) h = by (is_copied v) (nat_le (n + length v.name) 40) refl h
+copies_short n (v ∷ vs) h = by (is_copied v) (nat_le (n + length v.name) 40) refl h (copies_short n vs)
   where
     none : {x : Bool} → false ≡ true → x ≡ true
     none e = cc
 
     by : (a b : Bool) → nat_le (n + length v.name) 40 ≡ b → (b && are_short_behind n vs) ≡ true
+        → (are_short_behind n vs ≡ true → are_short_behind n (map old_copy (filter is_copied vs)) ≡ true)
         → are_short_behind n (map old_copy (cond a (v ∷ filter is_copied vs) (filter is_copied vs))) ≡ true
-    by a false e h = none h
-    by true true e h = ap (λ b. b && are_short_behind n (map old_copy (filter is_copied vs))) e ∙ copies_short n vs h
-    by false true e h = copies_short n vs h
+    by a false e h more = none h
+    by true true e h more = ap (λ b. b && are_short_behind n (map old_copy (filter is_copied vs))) e ∙ more h
+    by false true e h more = more h
 
 -- one procedure more
 pub longest_push : (cs : List Callee) (table : List (Option ℕ)) (it : Callee) (o : Option ℕ) → AreLongest cs table → IsLongest it.expanded.places o
@@ -113,6 +114,6 @@ longest_at (c ∷ cs) [] j h = absurd h
 
 pub same_size : (cs : List Callee) (table : List (Option ℕ)) → AreLongest cs table → length table ≡ length cs
 same_size [] [] h = refl
-same_size (c ∷ cs) (t ∷ ts) h = ap suc (same_size cs ts h)
+same_size (c ∷ cs) (t ∷ ts) h = ap suc (same_size cs ts h.1)
 same_size [] (t ∷ ts) h = absurd h
 same_size (c ∷ cs) [] h = absurd h
