@@ -2,3 +2,5 @@ mod Apart
 mod Short
 mod Brought
 mod Named
+mod States
+mod Misfit
