@@ -1,5 +1,5 @@
 -- The variables to which parameters are handed back, one argument at a time.
-use Rattle.std.proofs.Common.{◌≡◌, ℕ, ◌+◌, ◌<◌, ◌≤◌, ◌∙◌, sym, ap, refl, Bool, true, false, ◌||◌, ◌&&◌, not, List, [], ◌∷◌, length, drop, get_or, nat_eq}
+use Rattle.std.proofs.Common.{◌≡◌, ℕ, ◌+◌, ◌<◌, ◌≤◌, ◌∙◌, sym, ap, refl, Bool, true, false, ◌||◌, ◌&&◌, not, List, [], length, drop, get_or, nat_eq}
 use Rattle.std.specs.Prelude.{Option, Some, None, map, slice_get, filter_map}
 use Rattle.std.specs.Cmp.Lexicographic.{pointwise}
 use Rattle.std.specs.List.{list_any, cons_option}

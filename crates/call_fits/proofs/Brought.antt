@@ -1,6 +1,6 @@
 -- The places that the calls among some lines bring, the calls counted from the first line on.
-use Rattle.std.proofs.Common.{◌≡◌, ℕ, zero, suc, ◌+◌, ◌∙◌, sym, ap, refl, List, [], ◌∷◌, ◌++◌, length, take, arith, cond, append_assoc}
-use Rattle.std.specs.Prelude.{Option, Some, None, map, count_by, slice_get}
+use Rattle.std.proofs.Common.{◌≡◌, ℕ, suc, ◌+◌, ◌∙◌, sym, ap, refl, List, [], ◌∷◌, ◌++◌, length, take, arith, cond, append_assoc}
+use Rattle.std.specs.Prelude.{Some, None, map, count_by, slice_get}
 use Rattle.std.proofs.lemmas.List.{length-append}
 use Rattle.std.proofs.lemmas.List.Sums.{sum_by-append, sum_by-cons}
 use Rattle.il_core.specs.Procedure.{Instruction}

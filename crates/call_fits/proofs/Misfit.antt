@@ -1,10 +1,9 @@
 -- A CALL fits where its procedure's longest name tells so.
-use Rattle.std.proofs.Common.{◌≡◌, ℕ, ◌+◌, ◌-◌, ◌∙◌, sym, ap, refl, Bool, true, false, ◌&&◌, List, [], ◌∷◌, count_by}
+use Rattle.std.proofs.Common.{◌≡◌, ℕ, ◌+◌, ◌-◌, ◌∙◌, sym, ap, refl, Bool, false, ◌&&◌, List, count_by}
 use Rattle.std.specs.Prelude.{Option, Some, None, is_some, slice_get}
 use Rattle.std.specs.List.{list_all}
 use Rattle.std.specs.Option.{option_and_then}
 use Rattle.il_core.specs.Statement.{Statement, Placed, call}
-use Rattle.il_core.specs.Tree.{Tree}
 use Rattle.il_core.specs.declared.refusal.Code.TheVariants as code
 use Rattle.il_core.specs.declared.statement.Link.{Link}
 use Rattle.il_types.specs.Names.{Setting, counts_at}
@@ -20,7 +19,6 @@ use Rattle.call_fits.specs.Longest.{AreLongest, is_short_behind, front_length, m
 use Rattle.call_fits.specs.Longest as longest
 use Rattle.call_fits.proofs.Short.{AgreesWith, longest_at, names_brought}
 use Rattle.call_fits.proofs.States.{IsKept}
-
 
 by_callee : (k : ℕ) (fit : Bool) (p : Option Callee) (o : Option (Option ℕ)) → AgreesWith p o
     → (elim o [ None ↦ false | Some l ↦ fit && is_short_behind (front_length k) l ]) ≡ (is_some p && (fit && list_all is_short (new_names_of k p)))

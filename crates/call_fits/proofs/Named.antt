@@ -1,5 +1,5 @@
 -- What is kept of a procedure with one statement more.
-use Rattle.std.proofs.Common.{◌≡◌, ℕ, suc, ◌+◌, ◌-◌, ◌<◌, ◌≤◌, ◌∙◌, sym, ap, subst, refl, Bool, true, false, ◌&&◌, List, [], ◌∷◌, ◌++◌, length, arith, append-nil, nat_le}
+use Rattle.std.proofs.Common.{◌≡◌, ℕ, ◌+◌, ◌-◌, ◌<◌, ◌≤◌, ◌∙◌, sym, ap, subst, refl, Bool, true, false, ◌&&◌, List, [], ◌∷◌, ◌++◌, length, arith, append-nil, nat_le}
 use Rattle.std.specs.Prelude.{Option, Some, None, map, count_by, slice_get, unwrap_or}
 use Rattle.std.specs.Option.{option_and_then}
 use Rattle.std.proofs.lemmas.Bool.{false≢true}
@@ -22,7 +22,7 @@ use Rattle.call_rules.specs.Parameters.{is_procedure}
 use Rattle.call_limits.proofs.Callees.{few_before}
 use Rattle.call_limits.proofs.Passed.{none_yet, given_more}
 use Rattle.call_fits.specs.declared.longest.Latest.{Latest}
-use Rattle.call_fits.specs.Longest.{are_short_behind, is_short_behind, IsLongest, AreLongest, front_length, longer, brought, called, nothing_yet, with_call, latest_behind}
+use Rattle.call_fits.specs.Longest.{are_short_behind, is_short_behind, AreLongest, front_length, brought, called, nothing_yet, with_call, latest_behind}
 use Rattle.call_fits.proofs.Short.{longer_is, brought_is, behind_brought, short_append, AgreesWith, longest_at, same_size}
 use Rattle.call_fits.proofs.Brought.{brought_by, brought_from, calls_append, brought_append, own_calls, own_brought}
 

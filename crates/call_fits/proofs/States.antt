@@ -1,10 +1,9 @@
 -- What has been kept of the procedures in front of a statement, with one statement more.
 use Rattle.std.proofs.Common.{◌≡◌, ℕ, suc, ◌+◌, ◌<◌, ◌∙◌, sym, ap, subst, refl, cond, Bool, true, false, ◌&&◌, List, [], ◌∷◌, ◌++◌, length, drop, arith, nat_eq}
-use Rattle.std.specs.Prelude.{Option, Some, None, map, slice_get, filter}
+use Rattle.std.specs.Prelude.{Option, Some, map, slice_get, filter}
 use Rattle.std.proofs.lemmas.Option.{slice_get_within}
 use Rattle.il_core.specs.Checked.{old_copy, is_copied}
 use Rattle.il_core.specs.Statement.{Statement, Placed, procedure}
-use Rattle.il_core.specs.declared.line.Place.{Place}
 use Rattle.il_core.specs.declared.statement.Link.{Link}
 use Rattle.il_types.specs.declared.counts.Counts.{Counts}
 use Rattle.il_types.specs.Counts.{counts_behind}
@@ -21,7 +20,7 @@ use Rattle.call_limits.proofs.Callees.{made, none_before, ended}
 use Rattle.call_limits.proofs.Measured.{whole}
 use Rattle.call_limits.proofs.Variables.{variables_are, copies_behind}
 use Rattle.call_fits.specs.declared.longest.Latest.{Latest}
-use Rattle.call_fits.specs.Longest.{are_short_behind, is_short_behind, IsLongest, AreLongest, nothing_yet, latest_behind, table_behind}
+use Rattle.call_fits.specs.Longest.{are_short_behind, IsLongest, AreLongest, nothing_yet, latest_behind, table_behind}
 use Rattle.call_fits.proofs.Short.{short_append, copies_short, longest_push}
 use Rattle.call_fits.proofs.Brought.{brought_from, all_brought}
 use Rattle.call_fits.proofs.Named.{IsNamed, named_next, named_begins}

@@ -51,12 +51,7 @@ fn is_given(parameter: Option<Parameter>, argument: &RawExpr, name: &Name) -> bo
 }
 
 /// Whether a parameter from number `from` on is handed back to the variable of a name.
-fn is_given_from(
-    parameters: &[Parameter],
-    arguments: &[RawExpr],
-    from: usize,
-    name: &Name,
-) -> bool
+fn is_given_from(parameters: &[Parameter], arguments: &[RawExpr], from: usize, name: &Name) -> bool
     requires { from ≤ length arguments.now }
     ensures { result ≡ list_any (pointwise nat_eq name.now) (names_left parameters.now arguments.now from) }
 {

@@ -52,7 +52,14 @@ fn misfit(
 {
     match form {
         Form::Call(name, arguments) => unless(
-            fits(setting, parameters, table, calls, name, arguments.as_slice()),
+            fits(
+                setting,
+                parameters,
+                table,
+                calls,
+                name,
+                arguments.as_slice(),
+            ),
             Code::BadCall,
         ),
         _ => None,
@@ -80,7 +87,13 @@ pub fn first_unfit(
     let mut latest = nothing_yet();
     for (i, stmt) in stmts.iter().enumerate() {
         let setting = Setting::new(names, before, stmts, counts.procedures, i);
-        match misfit(&setting, parameters, table.as_slice(), latest.calls, &stmt.form) {
+        match misfit(
+            &setting,
+            parameters,
+            table.as_slice(),
+            latest.calls,
+            &stmt.form,
+        ) {
             None => {}
             Some(found) => {
                 return Ok(Some(refusal_of(found, stmt.place)));

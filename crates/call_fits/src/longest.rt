@@ -42,7 +42,11 @@ fn with_front(front: usize, longest: usize) -> usize
     requires { front ≤ 42 }
     ensures { result ≡ with_front front longest }
 {
-    if longest <= 40 { front + longest } else { longest }
+    if longest <= NAME_LIMIT {
+        front + longest
+    } else {
+        longest
+    }
 }
 
 /// The greater of two lengths, where there are any.
@@ -73,7 +77,7 @@ pub(crate) fn are_short(call: usize, longest: Option<usize>) -> bool
 {
     match longest {
         None => true,
-        Some(longest) => longest <= 40 && front_length(call) + longest <= NAME_LIMIT,
+        Some(longest) => longest <= NAME_LIMIT && front_length(call) + longest <= NAME_LIMIT,
     }
 }
 
