@@ -15,23 +15,23 @@ use Rattle.call_rules.specs.CalledText.{written_procedure, procedures_from, writ
 abbrev pub made : List Callee → WrittenProcedure → Callee
 made before p = record { written = p; expanded = expansion_of before (length before) p }
 
-pushed : (before : List Callee) (ps : List WrittenProcedure) (p : WrittenProcedure)
+pub pushed : (before : List Callee) (ps : List WrittenProcedure) (p : WrittenProcedure)
     → callees_behind before (ps ++ p ∷ []) ≡ callees_behind before ps ++ made (callees_behind before ps) p ∷ []
 pushed before [] p = refl
 pushed before (q ∷ ps) p = pushed (before ++ made before q ∷ []) ps p
 
-callees_push : (ps : List WrittenProcedure) (p : WrittenProcedure) → callees_of (ps ++ p ∷ []) ≡ callees_of ps ++ made (callees_of ps) p ∷ []
+pub callees_push : (ps : List WrittenProcedure) (p : WrittenProcedure) → callees_of (ps ++ p ∷ []) ≡ callees_of ps ++ made (callees_of ps) p ∷ []
 unfolding callees_of
 callees_push ps p = pushed [] ps p
 
-length_behind : (before : List Callee) (ps : List WrittenProcedure) → length (callees_behind before ps) ≡ length before + length ps
+pub length_behind : (before : List Callee) (ps : List WrittenProcedure) → length (callees_behind before ps) ≡ length before + length ps
 length_behind before [] = omega arith
 length_behind before (p ∷ ps) =
     let l = length-append before (made before p ∷ []) in
     let r = length_behind (before ++ made before p ∷ []) ps in
     r ∙ ap (λ n. n + length ps) l ∙ omega arith
 
-length_callees : (ps : List WrittenProcedure) → length (callees_of ps) ≡ length ps
+pub length_callees : (ps : List WrittenProcedure) → length (callees_of ps) ≡ length ps
 unfolding callees_of
 length_callees ps = let e : 0 + length ps ≡ length ps = omega arith in length_behind [] ps ∙ e
 
@@ -40,7 +40,7 @@ pub none_before : (stmts : List Placed) (links : List Link) → callees_before s
 unfolding callees_of
 none_before stmts links = refl
 
-length_take : (ps : List WrittenProcedure) (n : ℕ) → length (take n ps) ≤ n
+pub length_take : (ps : List WrittenProcedure) (n : ℕ) → length (take n ps) ≤ n
 length_take ps zero = omega arith
 length_take [] (suc n) = omega arith
 length_take (p ∷ ps) (suc n) = let l = length_take ps n in omega arith
@@ -52,7 +52,7 @@ few_before stmts links owner =
     let l = length_take (written_procedures stmts links) (owner - 1) in
     subst (λ n. n ≤ owner - 1) (sym (length_callees ps)) l
 
-take_next : {A : Type 0} (xs : List A) (n : ℕ) (x : A) → slice_get xs n ≡ Some x → take (suc n) xs ≡ take n xs ++ x ∷ []
+pub take_next : {A : Type 0} (xs : List A) (n : ℕ) (x : A) → slice_get xs n ≡ Some x → take (suc n) xs ≡ take n xs ++ x ∷ []
 take_next [] zero x e = absurd (none e)
   where
     none : {A : Type 0} {x : A} → None ≡ Some x → ⊥
@@ -64,7 +64,7 @@ take_next [] (suc n) x e = absurd (none e)
 take_next (y ∷ xs) zero x e = let s : y ≡ x = cc in ap (λ z. z ∷ []) s
 take_next (y ∷ xs) (suc n) x e = ap (λ zs. y ∷ zs) (take_next xs n x e)
 
-procedure_there : (stmts : List Placed) (links : List Link) (owner : ℕ) (names : List (List ℕ)) (j : ℕ) (name : List ℕ) → slice_get names j ≡ Some name
+pub procedure_there : (stmts : List Placed) (links : List Link) (owner : ℕ) (names : List (List ℕ)) (j : ℕ) (name : List ℕ) → slice_get names j ≡ Some name
     → slice_get (procedures_from stmts links owner names) j ≡ Some (written_procedure stmts links (owner + j) name)
 procedure_there stmts links owner (n ∷ names) zero name e =
     let s : n ≡ name = cc in

@@ -14,7 +14,7 @@ use Rattle.il_built.proofs.Given.{stands, given_by, given_next, given_here, not_
 use Rattle.il_called.specs.Expansion.{variables_in}
 
 -- what each statement gives keeps, all that is given to a procedure keeps
-each_given : {A : Type 0} (P : List A → Type 0) (give : ℕ → Statement → List A) (stmts : List Placed) (owner n : ℕ) → n ≤ length stmts → P []
+pub each_given : {A : Type 0} (P : List A → Type 0) (give : ℕ → Statement → List A) (stmts : List Placed) (owner n : ℕ) → n ≤ length stmts → P []
     → ((xs ys : List A) → P xs → P ys → P (xs ++ ys)) → ((i : ℕ) (x : Statement) → P (give i x)) → P (given_by give stmts owner n)
 each_given P give stmts owner zero h none join one = none
 each_given P give stmts owner (suc i) h none join one =
@@ -25,19 +25,19 @@ each_given P give stmts owner (suc i) h none join one =
     ] in
     subst P (sym (given_next give stmts owner i)) (join _ _ (each_given P give stmts owner i (omega arith) none join one) here)
 
-abbrev ArePlain : List Place → Type 0
+abbrev pub ArePlain : List Place → Type 0
 ArePlain vs = filter is_variable vs ≡ vs
 
 plain : (s : Setting) (x : Statement) → ArePlain (declared_place s x)
 plain s (variable m name used) = refl
 plain s _ = refl
 
-are_plain : (stmts : List Placed) (owner : ℕ) → ArePlain (variables_of stmts owner)
+pub are_plain : (stmts : List Placed) (owner : ℕ) → ArePlain (variables_of stmts owner)
 are_plain stmts owner = each_given ArePlain (λ i x. declared_place (setting_at stmts i) x) stmts owner (length stmts) (omega arith) refl
     (λ xs ys h g. filter-append is_variable xs ys ∙ ap (λ zs. zs ++ filter is_variable ys) h ∙ ap (λ zs. xs ++ zs) g)
     (λ i x. plain (setting_at stmts i) x)
 
-no_variables : (vs : List Place) → filter is_variable (map old_copy vs) ≡ []
+pub no_variables : (vs : List Place) → filter is_variable (map old_copy vs) ≡ []
 no_variables [] = refl
 no_variables (v ∷ vs) = no_variables vs
 
@@ -49,7 +49,7 @@ variables_are stmts owner =
     filter-append is_variable vs (map old_copy copies) ∙ ap (λ ps. ps ++ filter is_variable (map old_copy copies)) (are_plain stmts owner)
     ∙ ap (λ ps. vs ++ ps) (no_variables copies) ∙ append-nil vs
 
-inout_length : (k : ℕ) (ps : List Place) → length (inout_from k ps) ≡ length (filter is_copied (filter is_variable ps))
+pub inout_length : (k : ℕ) (ps : List Place) → length (inout_from k ps) ≡ length (filter is_copied (filter is_variable ps))
 inout_length k [] = refl
 inout_length k (p ∷ ps) = by_test (is_variable p) (is_copied p) refl (inout_length (suc k) ps)
   where
@@ -62,7 +62,7 @@ inout_length k (p ∷ ps) = by_test (is_variable p) (is_copied p) refl (inout_le
 pub copies_are : (stmts : List Placed) (owner : ℕ) → length (inout_from 0 (places_of stmts owner)) ≡ length (filter is_copied (variables_of stmts owner))
 copies_are stmts owner = inout_length 0 (places_of stmts owner) ∙ ap (λ vs. length (filter is_copied vs)) (variables_are stmts owner)
 
-drop_front : {A : Type 0} (xs ys : List A) → drop (length xs) (xs ++ ys) ≡ ys
+pub drop_front : {A : Type 0} (xs ys : List A) → drop (length xs) (xs ++ ys) ≡ ys
 drop_front [] ys = refl
 drop_front (x ∷ xs) ys = drop_front xs ys
 

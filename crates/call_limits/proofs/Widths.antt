@@ -10,19 +10,19 @@ use Rattle.il_called.specs.Expansion.{Callee, brings, each_from, places_of, brou
 use Rattle.call_rules.specs.Limits.{lines_in, counted_width, widths_behind, widths_of}
 
 -- the length of what a list becomes
-length_each : {X Y : Type 0} (f : ℕ → X → List Y) (g : X → ℕ) (k : ℕ) (xs : List X) → ((n : ℕ) (x : X) → length (f n x) ≡ g x)
+pub length_each : {X Y : Type 0} (f : ℕ → X → List Y) (g : X → ℕ) (k : ℕ) (xs : List X) → ((n : ℕ) (x : X) → length (f n x) ≡ g x)
     → length (each_from f k xs) ≡ sum_by g xs
 length_each f g k [] each = refl
 length_each f g k (x ∷ xs) each =
     length-append (f k x) (each_from f (suc k) xs) ∙ ap (λ n. n + length (each_from f (suc k) xs)) (each k x)
     ∙ ap (λ n. g x + n) (length_each f g (suc k) xs each) ∙ sym (sum_by-cons g x xs)
 
-length_called : (k : ℕ) (o : Option Callee) → length {A = Place} (elim o [ None ↦ [] | Some it ↦ map (brought k) it.expanded.places ])
+pub length_called : (k : ℕ) (o : Option Callee) → length {A = Place} (elim o [ None ↦ [] | Some it ↦ map (brought k) it.expanded.places ])
     ≡ elim o [ None ↦ 0 | Some it ↦ length it.expanded.places ]
 length_called k None = refl
 length_called k (Some it) = length-map it.expanded.places (brought k)
 
-length_brought : (callees : List Callee) (p : WrittenProcedure) (n : ℕ) (line : WrittenLine) → length (places_of callees p n line) ≡ brings callees line
+pub length_brought : (callees : List Callee) (p : WrittenProcedure) (n : ℕ) (line : WrittenLine) → length (places_of callees p n line) ≡ brings callees line
 length_brought callees p n (own i) = refl
 length_brought callees p n (call c arguments) = length_called (call_number p.lines n) (slice_get callees c)
 
@@ -41,7 +41,7 @@ own_brings callees [] = refl
 own_brings callees (i ∷ is) = sum_by-cons (brings callees) (own i) (map own is) ∙ ap (λ n. 0 + n) (own_brings callees is)
 
 -- the widths of procedures with one more behind them
-widths_more : (before : List ℕ) (cs : List Callee) (c : Callee)
+pub widths_more : (before : List ℕ) (cs : List Callee) (c : Callee)
     → widths_behind before (cs ++ c ∷ []) ≡ widths_behind before cs ++ counted_width (widths_behind before cs) c ∷ []
 widths_more before [] c = refl
 widths_more before (d ∷ cs) c = widths_more (before ++ counted_width before d ∷ []) cs c

@@ -1,0 +1,26 @@
+-- The text with calls that statements in order and their links stand for, where they keep all rules of texts with calls.
+use Rattle.std.specs.Prelude.{◌≡◌, ◌≤◌, ℕ, List, length, slice_get, Some, None}
+use Rattle.il_core.specs.Checked.{AreInOrder}
+use Rattle.il_core.specs.Statement.{Placed}
+use Rattle.il_core.specs.declared.statement.Link.{Link}
+use Rattle.il_syntax.specs.Order.{IsInOrder}
+use Rattle.il_called.specs.Called.{WrittenProcedure, WrittenText}
+use Rattle.il_called.specs.CalledText.{CallsFit}
+use Rattle.call_rules.specs.CalledText.{called_text}
+use Rattle.call_rules.specs.Rules.{Answers}
+
+-- a text with few procedures, a profile, and places in order
+pub record IsFramed (t : WrittenText) : Type 0 where
+  pub some_procedures : 1 ≤ length t.procs
+  pub few_procedures : length t.procs ≤ 64
+  pub low_profile : 1 ≤ t.profile
+  pub high_profile : t.profile ≤ 2
+  pub in_order : (k : ℕ) (p : WrittenProcedure) → slice_get t.procs k ≡ Some p → AreInOrder p.places
+
+abbrev pub TextsAreFramed : Type 0
+TextsAreFramed = (stmts : List Placed) (links : List Link) → IsInOrder stmts → Answers stmts links None → IsFramed (called_text stmts links)
+
+-- the calls of each procedure fit
+abbrev pub CallsOfTextsFit : Type 0
+CallsOfTextsFit = (stmts : List Placed) (links : List Link) → IsInOrder stmts → Answers stmts links None
+    → (k : ℕ) (p : WrittenProcedure) → slice_get (called_text stmts links).procs k ≡ Some p → CallsFit (called_text stmts links).procs k p

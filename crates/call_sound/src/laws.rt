@@ -1,0 +1,14 @@
+//! The laws of texts with calls that keep all rules, as contracts of functions that do nothing.
+ghost use Rattle.call_sound.specs.Laws.{CallsOfTextsFit, TextsAreFramed};
+
+/// The text with calls of statements in order that keep all rules has from 1 to 64 procedures and a profile, and the variables of
+/// each procedure stand before its OLD copies. This law costs nothing.
+pub fn texts_are_framed()
+    ensures { TextsAreFramed }
+{}
+
+/// Each call of the text with calls of statements in order that keep all rules names an earlier procedure and has an argument for
+/// each of its parameters, and no variable is handed back to twice. This law costs nothing.
+pub fn calls_fit()
+    ensures { CallsOfTextsFit }
+{}

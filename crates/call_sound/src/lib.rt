@@ -1,0 +1,7 @@
+//! Laws of texts with calls that keep all rules: what their statements and links stand for is a text with calls as the machine
+//! that expands it takes it.
+#![tactic(auto)]
+
+mod laws;
+
+pub use laws::{calls_fit, texts_are_framed};
