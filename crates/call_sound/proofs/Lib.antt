@@ -1,2 +1,4 @@
 pub mod Kept
 pub mod Frame
+pub mod Lines
+pub mod Suited
