@@ -2,3 +2,4 @@ pub mod Kept
 pub mod Frame
 pub mod Lines
 pub mod Suited
+pub mod Apart
