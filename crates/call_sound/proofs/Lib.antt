@@ -3,3 +3,4 @@ pub mod Frame
 pub mod Lines
 pub mod Suited
 pub mod Apart
+pub mod Fits
