@@ -4,3 +4,4 @@ pub mod Lines
 pub mod Suited
 pub mod Apart
 pub mod Fits
+pub mod Widths

@@ -1,12 +1,14 @@
 -- The text with calls that statements in order and their links stand for, where they keep all rules of texts with calls.
-use Rattle.std.specs.Prelude.{◌≡◌, ◌≤◌, ℕ, List, length, slice_get, Some, None}
+use Rattle.std.specs.Prelude.{◌≡◌, ◌≤◌, ℕ, List, length, take, sum_by, slice_get, Some, None}
 use Rattle.il_core.specs.Checked.{AreInOrder}
 use Rattle.il_core.specs.Statement.{Placed}
 use Rattle.il_core.specs.declared.statement.Link.{Link}
 use Rattle.il_syntax.specs.Order.{IsInOrder}
 use Rattle.il_called.specs.Called.{WrittenProcedure, WrittenText}
 use Rattle.il_called.specs.CalledText.{CallsFit}
+use Rattle.il_called.specs.Expansion.{expansion_of, callees_of}
 use Rattle.call_rules.specs.CalledText.{called_text}
+use Rattle.call_rules.specs.Limits.{lines_in, widths_of}
 use Rattle.call_rules.specs.Rules.{Answers}
 
 -- a text with few procedures, a profile, and places in order
@@ -24,3 +26,10 @@ TextsAreFramed = (stmts : List Placed) (links : List Link) → IsInOrder stmts �
 abbrev pub CallsOfTextsFit : Type 0
 CallsOfTextsFit = (stmts : List Placed) (links : List Link) → IsInOrder stmts → Answers stmts links None
     → (k : ℕ) (p : WrittenProcedure) → slice_get (called_text stmts links).procs k ≡ Some p → CallsFit (called_text stmts links).procs k p
+
+-- the lines of each expansion are as many as its lines count as
+abbrev pub WidthsAreLengths : Type 0
+WidthsAreLengths = (stmts : List Placed) (links : List Link) → IsInOrder stmts → Answers stmts links None
+    → (k : ℕ) (p : WrittenProcedure) → slice_get (called_text stmts links).procs k ≡ Some p
+    → let callees = callees_of (take k (called_text stmts links).procs) in
+      length (expansion_of callees k p).lines ≡ sum_by (lines_in (widths_of callees)) p.lines

@@ -1,5 +1,5 @@
 //! The laws of texts with calls that keep all rules, as contracts of functions that do nothing.
-ghost use Rattle.call_sound.specs.Laws.{CallsOfTextsFit, TextsAreFramed};
+ghost use Rattle.call_sound.specs.Laws.{CallsOfTextsFit, TextsAreFramed, WidthsAreLengths};
 
 /// The text with calls of statements in order that keep all rules has from 1 to 64 procedures and a profile, and the variables of
 /// each procedure stand before its OLD copies. This law costs nothing.
@@ -11,4 +11,10 @@ pub fn texts_are_framed()
 /// each of its parameters, and no variable is handed back to twice. This law costs nothing.
 pub fn calls_fit()
     ensures { CallsOfTextsFit }
+{}
+
+/// The expansion of each procedure of the text with calls of statements in order that keep all rules has as many lines as the rules
+/// count for it. This law costs nothing.
+pub fn widths_are_lengths()
+    ensures { WidthsAreLengths }
 {}

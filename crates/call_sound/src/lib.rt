@@ -4,4 +4,4 @@
 
 mod laws;
 
-pub use laws::{calls_fit, texts_are_framed};
+pub use laws::{calls_fit, texts_are_framed, widths_are_lengths};
