@@ -5,3 +5,4 @@ pub mod Suited
 pub mod Apart
 pub mod Fits
 pub mod Widths
+pub mod Limits
