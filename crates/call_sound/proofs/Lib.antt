@@ -6,3 +6,5 @@ pub mod Apart
 pub mod Fits
 pub mod Widths
 pub mod Limits
+pub mod Short
+pub mod Whole

@@ -3,10 +3,14 @@ use Rattle.std.specs.Prelude.{◌≡◌, ◌≤◌, ℕ, List, length, take, sum
 use Rattle.il_core.specs.Checked.{AreInOrder}
 use Rattle.il_core.specs.Statement.{Placed}
 use Rattle.il_core.specs.declared.statement.Link.{Link}
+use Rattle.il_core.specs.declared.statement.Mode.{Mode}
+use Rattle.il_core.specs.declared.statement.TypeUse.{TypeUse}
 use Rattle.il_syntax.specs.Order.{IsInOrder}
+use Rattle.il_built.specs.Holding.{Declares}
 use Rattle.il_called.specs.Called.{WrittenProcedure, WrittenText}
-use Rattle.il_called.specs.CalledText.{CallsFit}
+use Rattle.il_called.specs.CalledText.{CallsFit, IsCalledText}
 use Rattle.il_called.specs.Expansion.{expansion_of, callees_of}
+use Rattle.call_checks.specs.WellFormed.{AreWellFormed}
 use Rattle.call_rules.specs.CalledText.{called_text}
 use Rattle.call_rules.specs.Limits.{lines_in, widths_of}
 use Rattle.call_rules.specs.Rules.{Answers}
@@ -33,3 +37,12 @@ WidthsAreLengths = (stmts : List Placed) (links : List Link) → IsInOrder stmts
     → (k : ℕ) (p : WrittenProcedure) → slice_get (called_text stmts links).procs k ≡ Some p
     → let callees = callees_of (take k (called_text stmts links).procs) in
       length (expansion_of callees k p).lines ≡ sum_by (lines_in (widths_of callees)) p.lines
+
+-- the names of variables have at most 40 bytes
+abbrev pub HaveShortNames : List Placed → Type 0
+HaveShortNames stmts = (i : ℕ) (m : Mode) (name : List ℕ) (used : TypeUse) → Declares stmts i m name used → length name ≤ 40
+
+-- where its procedures are well formed, it is a checked text with calls
+abbrev pub FormedAreChecked : Type 0
+FormedAreChecked = (stmts : List Placed) (links : List Link) → IsInOrder stmts → Answers stmts links None → HaveShortNames stmts
+    → AreWellFormed (called_text stmts links).procs → IsCalledText (called_text stmts links)

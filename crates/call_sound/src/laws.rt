@@ -1,5 +1,5 @@
 //! The laws of texts with calls that keep all rules, as contracts of functions that do nothing.
-ghost use Rattle.call_sound.specs.Laws.{CallsOfTextsFit, TextsAreFramed, WidthsAreLengths};
+ghost use Rattle.call_sound.specs.Laws.{CallsOfTextsFit, FormedAreChecked, TextsAreFramed, WidthsAreLengths};
 
 /// The text with calls of statements in order that keep all rules has from 1 to 64 procedures and a profile, and the variables of
 /// each procedure stand before its OLD copies. This law costs nothing.
@@ -17,4 +17,10 @@ pub fn calls_fit()
 /// count for it. This law costs nothing.
 pub fn widths_are_lengths()
     ensures { WidthsAreLengths }
+{}
+
+/// The text with calls of statements in order that keep all rules, with names of variables of at most 40 bytes, is a checked text
+/// with calls where its procedures are well formed. This law costs nothing.
+pub fn formed_are_checked()
+    ensures { FormedAreChecked }
 {}

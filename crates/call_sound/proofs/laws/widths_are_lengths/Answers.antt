@@ -1,4 +1,3 @@
-use Rattle.call_sound.proofs.Limits.{keeps_size}
 use Rattle.std.proofs.Common.{arith}
 use Rattle.std.proofs.lemmas.Option.{slice_get_within}
 use Rattle.call_rules.specs.CalledText.{written_procedures}
