@@ -108,5 +108,5 @@ formed_are_checked stmts links o a names formed =
           subst KeepsLimits (sym m.is) (keeps_limits stmts links k m.written o a m.there);
       apart = λ k n c p arguments there line. (calls_fit stmts links o a k p there n c arguments line).1.3;
       names = λ k callee place there is. let m = callee_made ps k callee there in
-          short_in callee.expanded.places place (subst (λ (it : Callee). AreShort it.expanded.places) (sym m.is) (expanded_short stmts links k _ m.written (keeps_calls stmts links a) names m.there)) is;
+          short_in callee.expanded.places place (subst (λ (it : Callee). AreShort it.expanded.places) (sym m.is) (expanded_short stmts links k (length (callees_of (take k ps))) m.written (keeps_calls stmts links a) names m.there)) is;
     })
