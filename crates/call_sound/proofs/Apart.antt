@@ -1,5 +1,5 @@
 -- A name that stands for a variable has the place of that variable, so names that differ have places that differ.
-use Rattle.std.proofs.Common.{◌≡◌, ◌⊎◌, ℕ, zero, suc, ◌∙◌, sym, ap, subst, refl, inl, inr, Bool, true, false, List, [], ◌∷◌, length, nat_eq, if◌then◌else◌, arith}
+use Rattle.std.proofs.Common.{◌≡◌, ◌⊎◌, ℕ, zero, suc, ◌∙◌, sym, ap, refl, inl, inr, Bool, true, false, List, [], ◌∷◌, length, nat_eq, if◌then◌else◌}
 use Rattle.std.specs.Prelude.{Option, Some, None, nat_lt, slice_get, unwrap_or}
 use Rattle.std.specs.Option.{option_map, option_or}
 use Rattle.std.specs.Map.{lookup}
@@ -12,11 +12,11 @@ use Rattle.il_core.specs.declared.statement.TypeUse.{TypeUse}
 use Rattle.il_syntax.specs.Order.{IsInOrder}
 use Rattle.il_types.specs.declared.kind.Kind.{Kind}
 use Rattle.il_types.specs.Built.{place_of, place_number, assigned_place}
-use Rattle.il_types.specs.Names.{Setting, Spot, Table, same_key, front_of, counts_at, earlier, of_procedure, in_force, said, declaration, declared_names}
+use Rattle.il_types.specs.Names.{Setting, Spot, same_key, front_of, counts_at, earlier, of_procedure, in_force, said, declaration, declared_names}
 use Rattle.il_types.specs.Typing.{variable_in, kind_of_variable}
 use Rattle.il_built.specs.CheckedText.{places_of}
 use Rattle.il_built.specs.Holding.{setting_at}
-use Rattle.il_built.proofs.Entered.{IsOwn, bound, mapped, own_variable}
+use Rattle.il_built.proofs.Entered.{bound, mapped, own_variable}
 use Rattle.il_built.proofs.PlacesHold.{places_hold}
 use Rattle.il_built.proofs.VariablesFirst.{owned}
 use Rattle.typing_laws.proofs.Entries.{Made, found_made}

@@ -1,9 +1,9 @@
 -- Each call of a text with calls that keeps all rules names an earlier procedure and has what suits its parameters, none of it handed back twice.
-use Rattle.std.proofs.Common.{◌≡◌, ℕ, ◌+◌, ◌-◌, ◌<◌, ◌≤◌, ◌∙◌, sym, ap, subst, refl, inl, inr, not, Bool, true, false, ◌&&◌, ◌||◌, List, [], ◌∷◌, length, arith, nat_eq}
+use Rattle.std.proofs.Common.{◌≡◌, ℕ, ◌+◌, ◌-◌, ◌<◌, ◌≤◌, ◌∙◌, sym, ap, subst, refl, inl, inr, not, Bool, true, false, ◌||◌, List, [], ◌∷◌, arith, nat_eq}
 use Rattle.std.specs.Prelude.{Option, Some, None, is_some, map, filter, filter_map, slice_get, unwrap_or}
 use Rattle.std.specs.Cmp.Lexicographic.{pointwise}
 use Rattle.std.specs.List.{list_all, list_any, cons_option}
-use Rattle.std.specs.Option.{option_and_then, option_map}
+use Rattle.std.specs.Option.{option_map}
 use Rattle.std.proofs.lemmas.Cmp.{nat_list_eq_equiv}
 use Rattle.std.proofs.lemmas.Option.{same_Some, slice_get_within}
 use Rattle.il_core.specs.LineGraph.{IsIn}
@@ -24,11 +24,11 @@ use Rattle.il_built.proofs.BuiltRanges.{nowhere_at}
 use Rattle.il_built.proofs.BuiltSorts.{both_true}
 use Rattle.il_built.proofs.Entered.{bound}
 use Rattle.il_called.specs.Called.{Passed, call, WrittenProcedure}
-use Rattle.il_called.specs.CalledText.{Suit, AreApart, CallsFit, returned_to, parameters_of}
+use Rattle.il_called.specs.CalledText.{Suit, AreApart, returned_to, parameters_of}
 use Rattle.il_called.specs.Expansion.{Callee, is_parameter}
 use Rattle.call_rules.specs.Callee.{Pairing, procedure_in, procedure_named, parameters_named, pairings}
-use Rattle.call_rules.specs.CalledText.{written_procedure, written_procedures, passed, callees_before, callee_at, owner_at}
-use Rattle.call_rules.specs.Calls.{back_to, kind_given, takes_back, may_be_given, is_typed_pairing, fault_at}
+use Rattle.call_rules.specs.CalledText.{written_procedure, written_procedures, callees_before, callee_at, owner_at}
+use Rattle.call_rules.specs.Calls.{back_to, kind_given, takes_back, is_typed_pairing, fault_at}
 use Rattle.call_rules.specs.Clash.{new_names}
 use Rattle.call_rules.specs.Fits.{is_one_each, is_suited, are_apart, is_short, fit_parameters, misfit_at}
 use Rattle.call_rules.specs.Parameters.{parameters}

@@ -1,13 +1,12 @@
 -- The procedures of a text with calls, in their order: how many they are, and that the places of each are in order.
 use Rattle.std.proofs.Common.{◌≡◌, ℕ, zero, suc, ◌+◌, ◌<◌, ◌≤◌, ◌∙◌, sym, ap, subst, refl, List, [], ◌∷◌, length, arith}
-use Rattle.std.specs.Prelude.{Some, None, slice_get}
+use Rattle.std.specs.Prelude.{Some, slice_get}
 use Rattle.std.proofs.Math.Seq.{take-length}
 use Rattle.std.proofs.lemmas.List.{length-append}
 use Rattle.std.proofs.lemmas.Option.{same_Some, slice_get_within}
 use Rattle.il_core.specs.Checked.{AreInOrder}
 use Rattle.il_core.specs.Statement.{Statement, Placed, procedure}
 use Rattle.il_core.specs.declared.statement.Link.{Link}
-use Rattle.il_syntax.specs.Order.{IsInOrder}
 use Rattle.il_blocks.specs.BlockLabel.{begins, procedures, owner}
 use Rattle.il_types.specs.declared.counts.Counts.{Counts}
 use Rattle.il_types.specs.Names.{counts_at}
@@ -20,7 +19,7 @@ use Rattle.il_built.proofs.Profile.{profile_is}
 use Rattle.il_called.specs.Called.{WrittenProcedure}
 use Rattle.call_rules.specs.CalledText.{written_procedure, procedures_from, written_procedures}
 use Rattle.call_limits.proofs.Callees.{procedure_there}
-use Rattle.call_sound.specs.Laws.{IsFramed, TextsAreFramed}
+use Rattle.call_sound.specs.Laws.{TextsAreFramed}
 use Rattle.call_sound.proofs.Kept.{KeepsCalls, keeps_calls, limited_behind}
 
 counted : (stmts : List Placed) (links : List Link) (owner : ℕ) (names : List (List ℕ)) → length (procedures_from stmts links owner names) ≡ length names

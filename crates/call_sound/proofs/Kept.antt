@@ -1,6 +1,6 @@
 -- What statements that keep all rules of texts with calls keep.
 use Rattle.std.proofs.Common.{◌≡◌, ℕ, ◌+◌, ◌≤◌, refl, Bool, true, false, List, arith, if◌then◌else◌}
-use Rattle.std.specs.Prelude.{Option, Some, None, nat_lt, slice_get}
+use Rattle.std.specs.Prelude.{Some, None, nat_lt, slice_get}
 use Rattle.std.specs.Option.{option_map}
 use Rattle.il_core.specs.Statement.{Placed}
 use Rattle.il_core.specs.declared.refusal.Code.{Code}

@@ -7,24 +7,21 @@ use Rattle.std.proofs.lemmas.Option.{slice_get_within}
 use Rattle.il_core.specs.Checked.{is_copied}
 use Rattle.il_core.specs.Statement.{Statement, Placed, end_procedure}
 use Rattle.il_core.specs.Statement as st
-use Rattle.il_core.specs.declared.line.Place.{Place}
 use Rattle.il_core.specs.declared.statement.Link.{Link}
 use Rattle.il_syntax.specs.Order.{IsInOrder, part_of}
 use Rattle.il_blocks.specs.BlockLabel.{owner}
 use Rattle.il_blocks.specs.BlockLink.{has_line}
-use Rattle.il_types.specs.declared.counts.Counts.{Counts}
 use Rattle.il_types.specs.Names.{counts_at}
 use Rattle.il_built.specs.CheckedText.{of_procedure, declared_place, procedure_names, variables_of}
 use Rattle.il_built.specs.Holding.{setting_at}
 use Rattle.il_built.proofs.CheckedLinesCounts.{owner_is}
-use Rattle.il_built.proofs.CheckedLinesEnd.{IsLineOf, IsEndOf, end_of, none_behind}
+use Rattle.il_built.proofs.CheckedLinesEnd.{IsEndOf, end_of, none_behind}
 use Rattle.il_built.proofs.CheckedLinesGiven.{given_is}
-use Rattle.il_built.proofs.CheckedLinesUpto.{upto, ends_at}
+use Rattle.il_built.proofs.CheckedLinesUpto.{ends_at}
 use Rattle.il_built.proofs.Given.{stands, given_front, given_here, not_given}
 use Rattle.il_built.proofs.VariablesCounted.{variables_to, variables_counted}
 use Rattle.il_built.proofs.VariablesFirst.{is_behind, all_before}
 use Rattle.il_built.proofs.WithoutFault.{AreWithinLimits}
-use Rattle.il_called.specs.Called.{WrittenLine}
 use Rattle.il_called.specs.Expansion.{brings, callees_of}
 use Rattle.call_rules.specs.CalledText.{written_lines, written_procedures, lines_before, callees_before}
 use Rattle.call_rules.specs.Limits.{lines_in, widths_of, counts_with_calls}

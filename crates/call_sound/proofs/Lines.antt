@@ -1,22 +1,19 @@
 -- Which statement gives a line of a procedure of a text with calls.
-use Rattle.std.proofs.Common.{◌≡◌, ℕ, ◌+◌, ◌-◌, ◌<◌, ◌≤◌, ◌∙◌, sym, ap, subst, refl, List, [], ◌∷◌, ◌++◌, length, take, arith}
+use Rattle.std.proofs.Common.{◌≡◌, ℕ, ◌-◌, ◌≤◌, ◌∙◌, sym, ap, refl, List, [], ◌∷◌, length, take, arith}
 use Rattle.std.specs.Prelude.{Some, map, slice_get, unwrap_or}
 use Rattle.std.proofs.Math.Seq.{take-append_seam}
 use Rattle.std.proofs.lemmas.Option.{slice_get_within}
-use Rattle.il_core.specs.Procedure.{Instruction}
 use Rattle.il_core.specs.Statement.{Statement, Placed}
 use Rattle.il_core.specs.Statement as st
 use Rattle.il_core.specs.Tree.{Tree}
 use Rattle.il_core.specs.declared.statement.Link.{Link}
 use Rattle.il_types.specs.Names.{counts_at}
-use Rattle.il_built.specs.CheckedText.{of_procedure, instructions, post_of, target_at}
 use Rattle.il_built.specs.Holding.{setting_at}
-use Rattle.il_built.proofs.CheckedLinesGiven.{IsGiven, given_is, given_found}
-use Rattle.il_built.proofs.CheckedLinesUpto.{upto}
+use Rattle.il_built.proofs.CheckedLinesGiven.{given_is, given_found}
 use Rattle.il_built.proofs.Given.{given_by, given_front}
-use Rattle.il_called.specs.Called.{Passed, WrittenLine, own, call}
+use Rattle.il_called.specs.Called.{Passed, WrittenLine, call}
 use Rattle.call_rules.specs.Callee.{procedure_named, parameters_named, pairings}
-use Rattle.call_rules.specs.CalledText.{passed, call_line, written_lines, lines_before}
+use Rattle.call_rules.specs.CalledText.{passed, written_lines, lines_before}
 
 -- a statement gives one line at most
 few : (stmts : List Placed) (links : List Link) (owner i : ℕ) (x : Statement) → length (written_lines stmts links owner i x) ≤ 1

@@ -1,9 +1,8 @@
 -- The names of the places of expansions have at most 40 bytes, where those of the variables have.
-use Rattle.std.proofs.Common.{◌≡◌, ℕ, zero, suc, ◌+◌, ◌-◌, ◌<◌, ◌≤◌, ◌∙◌, sym, ap, subst, refl, inl, inr, Bool, true, false, ◌&&◌, cond, List, [], ◌∷◌, ◌++◌, length, take, drop, arith}
+use Rattle.std.proofs.Common.{◌≡◌, ℕ, zero, suc, ◌+◌, ◌-◌, ◌≤◌, ◌∙◌, sym, ap, subst, refl, inl, inr, Bool, true, false, cond, List, [], ◌∷◌, ◌++◌, length, take, drop, arith}
 use Rattle.std.specs.Prelude.{Option, Some, None, map, filter, count_by, slice_get, nat_le}
 use Rattle.std.specs.List.{list_all}
 use Rattle.std.proofs.lemmas.Bool.{cases_eq}
-use Rattle.std.proofs.lemmas.Option.{same_Some, slice_get_within}
 use Rattle.il_core.specs.Checked.{is_copied, old_copy}
 use Rattle.il_core.specs.LineGraph.{IsIn}
 use Rattle.il_core.specs.Statement.{Statement, Placed, variable}
@@ -12,14 +11,14 @@ use Rattle.il_core.specs.declared.statement.Link.{Link}
 use Rattle.il_core.specs.declared.statement.Mode.{Mode}
 use Rattle.il_core.specs.declared.statement.TypeUse.{TypeUse}
 use Rattle.il_types.specs.Names.{Setting, counts_at}
-use Rattle.il_built.specs.CheckedText.{of_procedure, declared_place, variables_of, places_of}
-use Rattle.il_built.specs.Holding.{setting_at, Declares}
+use Rattle.il_built.specs.CheckedText.{of_procedure, declared_place, variables_of}
+use Rattle.il_built.specs.Holding.{setting_at}
 use Rattle.il_built.proofs.BuiltSorts.{both_true}
 use Rattle.il_built.proofs.Given.{given_by, given_next, given_here, not_given, stands}
-use Rattle.il_called.specs.Called.{Passed, WrittenLine, own, call, WrittenProcedure}
+use Rattle.il_called.specs.Called.{WrittenLine, own, call, WrittenProcedure}
 use Rattle.il_called.specs.Expansion.{Callee, brought, brought_name, call_number, callees_of, each_from, expansion_of, is_call, variables_in}
 use Rattle.il_called.specs.Expansion as expansion
-use Rattle.call_rules.specs.CalledText.{written_procedure, written_procedures, lines_before, callees_before, owner_at, call_number_at, callee_at}
+use Rattle.call_rules.specs.CalledText.{written_procedures, lines_before, callees_before, owner_at, call_number_at}
 use Rattle.call_rules.specs.Clash.{new_names_of}
 use Rattle.call_rules.specs.Fits.{is_short}
 use Rattle.call_limits.proofs.Variables.{variables_are, copies_behind}

@@ -1,5 +1,5 @@
 -- What a CALL gives suits the parameters of the procedure that it names.
-use Rattle.std.proofs.Common.{◌≡◌, ℕ, zero, suc, ◌<◌, ◌≤◌, ◌∙◌, sym, ap, subst, refl, inl, inr, nat_eq, not, Bool, true, false, ◌&&◌, ◌||◌, List, [], ◌∷◌, ◌++◌, length, if◌then◌else◌, arith}
+use Rattle.std.proofs.Common.{◌≡◌, ℕ, zero, suc, ◌<◌, ◌≤◌, ◌∙◌, sym, ap, subst, refl, inl, inr, nat_eq, not, Bool, true, false, ◌||◌, List, [], ◌∷◌, ◌++◌, length, if◌then◌else◌, arith}
 use Rattle.std.specs.Prelude.{Option, Some, None, is_some, map, filter, filter_map}
 use Rattle.std.specs.List.{list_all, cons_option}
 use Rattle.std.proofs.lemmas.List.{map-append}
@@ -17,7 +17,7 @@ use Rattle.il_built.specs.Holding.{setting_at}
 use Rattle.il_built.proofs.BuiltSorts.{both_true}
 use Rattle.il_built.proofs.Given.{given_by, given_next, stands, given_here, not_given}
 use Rattle.std.proofs.lemmas.Bool.{cases_eq}
-use Rattle.il_called.specs.Called.{Passed, value, variable_of}
+use Rattle.il_called.specs.Called.{value, variable_of}
 use Rattle.il_called.specs.CalledText.{SuitsMode, Suit, returned_to}
 use Rattle.il_called.specs.Expansion.{is_parameter, is_returned}
 use Rattle.call_rules.specs.declared.parameters.Parameter.{Parameter}
@@ -97,8 +97,7 @@ all_suit s (v ∷ vs) (p ∷ ps) [] m one all = absurd (some (length ps) one)
 all_suit s (v ∷ vs) (p ∷ ps) (e ∷ es) m one all =
     let first : v.mode ≡ p.mode = cc in
     let rest : map (λ (w : Place). w.mode) vs ≡ parameter_modes ps = cc in
-    let both = both_true (is_suited (paired (Some p) e)) (list_all is_suited (pairings ps es)) all in
-    (
+    let both = both_true (is_suited (paired (Some p) e)) (list_all is_suited (pairings ps es)) all in (
       subst (λ (k : Mode). SuitsMode (is_returned k) (passed s (paired (Some p) e))) (sym first) (suits_one (is_returned p.mode) (single_name e) (built s e) (assigned_place s) both.0),
       all_suit s vs ps es rest (fewer (length ps) (length es) one) both.1,
     )

@@ -12,19 +12,18 @@ use Rattle.il_called.specs.Called.{WrittenProcedure}
 use Rattle.il_called.specs.Expansion.{Callee, brings, callees_behind, callees_of, each_from, expansion_of, variables_in}
 use Rattle.il_called.specs.Expansion as expansion
 use Rattle.il_inline.proofs.Texts.{at_last, behind_keeps}
-use Rattle.call_checks.specs.WellFormed.{AreWellFormed, KeepsLimits}
-use Rattle.call_checks.specs.Laws.{IsWellFormedText}
+use Rattle.call_checks.specs.WellFormed.{KeepsLimits}
 use Rattle.call_checks.proofs.Earlier.{text_checked}
-use Rattle.call_rules.specs.CalledText.{written_procedure, written_procedures, called_text, lines_before}
+use Rattle.call_rules.specs.CalledText.{written_procedures, called_text, lines_before}
 use Rattle.call_rules.specs.Limits.{lines_in, widths_of}
 use Rattle.call_rules.specs.Rules.{Answers}
 use Rattle.call_limits.proofs.Callees.{made, callees_push, length_callees, take_next}
 use Rattle.call_limits.proofs.Variables.{variables_are, copies_behind}
 use Rattle.call_limits.proofs.Widths.{length_places}
-use Rattle.call_sound.specs.Laws.{HaveShortNames, FormedAreChecked}
+use Rattle.call_sound.specs.Laws.{FormedAreChecked}
 use Rattle.call_sound.proofs.Fits.{calls_fit}
 use Rattle.call_sound.proofs.Frame.{procedure_at, texts_are_framed}
-use Rattle.call_sound.proofs.Kept.{KeepsCalls, keeps_calls}
+use Rattle.call_sound.proofs.Kept.{keeps_calls}
 use Rattle.call_sound.proofs.Limits.{keeps_size}
 use Rattle.call_sound.proofs.Short.{AreShort, expanded_short, short_in}
 use Rattle.call_sound.proofs.Widths.{expanded_length}

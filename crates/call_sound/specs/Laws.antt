@@ -36,7 +36,7 @@ abbrev pub WidthsAreLengths : Type 0
 WidthsAreLengths = (stmts : List Placed) (links : List Link) → IsInOrder stmts → Answers stmts links None
     → (k : ℕ) (p : WrittenProcedure) → slice_get (called_text stmts links).procs k ≡ Some p
     → let callees = callees_of (take k (called_text stmts links).procs) in
-      length (expansion_of callees k p).lines ≡ sum_by (lines_in (widths_of callees)) p.lines
+    length (expansion_of callees k p).lines ≡ sum_by (lines_in (widths_of callees)) p.lines
 
 -- the names of variables have at most 40 bytes
 abbrev pub HaveShortNames : List Placed → Type 0
