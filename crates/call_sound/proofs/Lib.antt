@@ -8,3 +8,5 @@ pub mod Widths
 pub mod Limits
 pub mod Short
 pub mod Whole
+pub mod Own
+pub mod Uncalled

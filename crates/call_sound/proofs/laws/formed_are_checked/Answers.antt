@@ -1,3 +1,5 @@
+use Rattle.call_sound.proofs.Uncalled.{uncalled_checked}
+use Rattle.call_sound.proofs.Own.{own_answers}
 use Rattle.call_sound.proofs.Whole.{formed_are_checked}
 use Rattle.call_sound.proofs.laws.formed_are_checked.Goals as goal
 
