@@ -10,3 +10,4 @@ pub mod Short
 pub mod Whole
 pub mod Own
 pub mod Uncalled
+pub mod Positive

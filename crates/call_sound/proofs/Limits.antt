@@ -42,7 +42,7 @@ none_written stmts links o i st.finish h = refl
 none_written stmts links o i _ h = absurd (cc)
 
 -- behind its ENDPROC nothing is written of a procedure
-ended_lines : (stmts : List Placed) (links : List Link) (o z : ℕ) → IsInOrder stmts → IsEndOf stmts o z
+pub ended_lines : (stmts : List Placed) (links : List Link) (o z : ℕ) → IsInOrder stmts → IsEndOf stmts o z
     → lines_before stmts links o (length stmts) ≡ lines_before stmts links o (suc z)
 ended_lines stmts links o z order e =
     let give = written_lines stmts links o in
