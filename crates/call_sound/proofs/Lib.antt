@@ -11,3 +11,4 @@ pub mod Whole
 pub mod Own
 pub mod Uncalled
 pub mod Positive
+pub mod Limited

@@ -1,3 +1,4 @@
+use Rattle.call_sound.proofs.Limited.{lines_are}
 use Rattle.call_sound.proofs.Positive.{no_fewer, widths_positive}
 use Rattle.call_sound.proofs.Uncalled.{uncalled_checked}
 use Rattle.call_sound.proofs.Own.{own_answers}
