@@ -19,7 +19,7 @@ use Rattle.call_rules.specs.Clash.{twice_at}
 use Rattle.call_sound.proofs.Kept.{KeepsCalls}
 
 -- what is found nowhere where each statement stands is found nowhere
-nowhere : (pass : ℕ → Statement → Option Found) (stmts : List Placed) → ((i : ℕ) (x : Placed) → slice_get stmts i ≡ Some x → pass i x.says ≡ None) → ComesNowhere pass stmts
+pub nowhere : (pass : ℕ → Statement → Option Found) (stmts : List Placed) → ((i : ℕ) (x : Placed) → slice_get stmts i ≡ Some x → pass i x.says ≡ None) → ComesNowhere pass stmts
 nowhere pass stmts none i = by (slice_get stmts i) refl
   where
     by : (o : Option Placed) → slice_get stmts i ≡ o → option_and_then (λ x. pass i x.says) o ≡ None
