@@ -1,5 +1,5 @@
 -- What is written keeps the limits of texts without calls.
-use Rattle.std.proofs.Common.{◌≡◌, ℕ, zero, suc, ◌+◌, ◌-◌, ◌<◌, ◌≤◌, ◌∙◌, sym, ap, subst, refl, Bool, true, false, List, [], ◌∷◌, ◌++◌, length, take, arith, if◌then◌else◌}
+use Rattle.std.proofs.Common.{◌≡◌, ℕ, zero, suc, ◌+◌, ◌-◌, ◌≤◌, ◌∙◌, sym, ap, subst, refl, false, List, [], ◌++◌, length, arith, if◌then◌else◌}
 use Rattle.std.specs.Prelude.{Some, None, sum_by, slice_get, nat_lt}
 use Rattle.std.specs.Option.{option_map}
 use Rattle.std.proofs.lemmas.List.{length-append}
@@ -13,7 +13,7 @@ use Rattle.il_types.specs.declared.rules.Rule.TheVariants as rule
 use Rattle.il_types.specs.Counts.{is_line, one_if, counts_behind, too_many}
 use Rattle.il_types.specs.Names.{front_of, counts_at}
 use Rattle.il_types.specs.Rules.{unnamed, ComesNowhere, broken}
-use Rattle.il_built.proofs.Given.{stands, counts_next, given_by, given_next, given_here}
+use Rattle.il_built.proofs.Given.{stands, counts_next, given_next, given_here}
 use Rattle.call_limits.proofs.Passed.{none_yet, later}
 use Rattle.call_rules.specs.CalledText.{written_lines, lines_before, callees_before}
 use Rattle.call_rules.specs.Limits.{lines_in, widths_of}
@@ -66,7 +66,7 @@ none_many c h =
     let l = above 1000 c.lines h.lines in
     let q = above 64 (c.variables + c.copies) h.places in
     ap (λ b. option_map (λ m. unnamed (code.TooMany m)) (if b then Some many.Procedures else (if nat_lt 1000 c.lines then Some many.Lines
-        else (if nat_lt 64 (c.variables + c.copies) then Some many.Places else None)))) p
+    else (if nat_lt 64 (c.variables + c.copies) then Some many.Places else None)))) p
     ∙ ap (λ b. option_map (λ m. unnamed (code.TooMany m)) (if b then Some many.Lines else (if nat_lt 64 (c.variables + c.copies) then Some many.Places else None))) l
     ∙ ap (λ b. option_map (λ m. unnamed (code.TooMany m)) (if b then Some many.Places else None)) q
   where

@@ -1,5 +1,5 @@
 -- Statements that keep all rules of texts with calls keep those of texts without calls, but for the limits, which are told apart.
-use Rattle.std.proofs.Common.{◌≡◌, ℕ, ◌∙◌, sym, ap, refl, List, [], ◌∷◌}
+use Rattle.std.proofs.Common.{◌≡◌, ℕ, refl, List}
 use Rattle.std.specs.Prelude.{Option, Some, None, slice_get}
 use Rattle.std.specs.Option.{option_and_then}
 use Rattle.il_core.specs.Statement.{Statement, Placed}

@@ -1,14 +1,13 @@
 -- Each line counts as one line at least, so what is written keeps the limits where what is counted does.
-use Rattle.std.proofs.Common.{◌≡◌, ℕ, zero, suc, ◌+◌, ◌-◌, ◌<◌, ◌≤◌, ◌∙◌, sym, ap, subst, refl, List, [], ◌∷◌, ◌++◌, length, take, arith}
-use Rattle.std.specs.Prelude.{Option, Some, None, sum_by, slice_get, unwrap_or}
+use Rattle.std.proofs.Common.{◌≡◌, ℕ, zero, suc, ◌+◌, ◌<◌, ◌≤◌, ◌∙◌, sym, ap, subst, refl, List, [], ◌∷◌, ◌++◌, length, take, arith}
+use Rattle.std.specs.Prelude.{Some, sum_by, slice_get, unwrap_or}
 use Rattle.std.proofs.lemmas.List.Sums.{sum_by-append, sum_by-cons}
 use Rattle.il_core.specs.Procedure as line
-use Rattle.il_core.specs.Statement.{Placed, end_procedure}
+use Rattle.il_core.specs.Statement.{Placed}
 use Rattle.il_core.specs.declared.statement.Link.{Link}
 use Rattle.il_syntax.specs.Order.{IsInOrder}
 use Rattle.il_blocks.specs.BlockLabel.{owner}
-use Rattle.il_types.specs.Names.{counts_at}
-use Rattle.il_built.specs.CheckedText.{post_of, procedure_names}
+use Rattle.il_built.specs.CheckedText.{post_of}
 use Rattle.il_built.proofs.CheckedLinesCounts.{owner_is}
 use Rattle.il_built.proofs.CheckedLinesEnd.{IsEndOf, end_of}
 use Rattle.il_built.proofs.Given.{given_next, given_here}
@@ -18,7 +17,7 @@ use Rattle.call_rules.specs.CalledText.{written_lines, written_procedures, lines
 use Rattle.call_rules.specs.Limits.{lines_in, counted_width, widths_of}
 use Rattle.call_limits.proofs.Callees.{made, callees_push, take_next}
 use Rattle.call_limits.proofs.Widths.{widths_push}
-use Rattle.call_sound.proofs.Frame.{names_owned, procedure_at, procedures_counted}
+use Rattle.call_sound.proofs.Frame.{names_owned, procedure_at}
 use Rattle.call_sound.proofs.Limits.{ended_lines}
 
 -- the ENDPROC of a procedure counts as a line
@@ -58,7 +57,7 @@ widths_positive stmts links (suc k) o h =
     let end = end_of stmts k o begun in
     let one : suc k ≡ 1 + k = omega arith in
     let lines : 1 ≤ sum_by (lines_in (widths_of cs)) p.0.lines = subst (λ (r : WrittenProcedure). 1 ≤ sum_by (lines_in (widths_of cs)) r.lines) (sym q.is)
-        (subst (λ m. 1 ≤ sum_by (lines_in (widths_of cs)) (lines_before stmts links m (length stmts))) one (some_line stmts links (widths_of cs) (suc k) end.0 o end.1)) in
+    (subst (λ m. 1 ≤ sum_by (lines_in (widths_of cs)) (lines_before stmts links m (length stmts))) one (some_line stmts links (widths_of cs) (suc k) end.0 o end.1)) in
     let wide : 1 ≤ counted_width (widths_of cs) (made cs p.0) = omega (arith, lines) in
     let more : widths_of (callees_of (take (suc k) ps)) ≡ widths_of cs ++ counted_width (widths_of cs) (made cs p.0) ∷ [] =
     ap widths_of (ap callees_of (take_next ps k p.0 p.1) ∙ callees_push (take k ps) p.0) ∙ widths_push cs (made cs p.0) in

@@ -16,7 +16,7 @@ use Rattle.il_built.specs.CheckedText.{of_procedure, instructions, post_of, proc
 use Rattle.il_built.specs.Holding.{setting_at}
 use Rattle.il_built.proofs.CheckedLinesWhole.{procedures_are_checked}
 use Rattle.il_built.proofs.Given.{stands, given_by, given_next, given_here, not_given}
-use Rattle.il_called.specs.Called.{WrittenLine, own, WrittenProcedure}
+use Rattle.il_called.specs.Called.{own, WrittenProcedure}
 use Rattle.call_checks.specs.WellFormed.{uncalled, without_calls}
 use Rattle.call_rules.specs.CalledText.{written_lines, written_procedure, written_procedures, lines_before}
 use Rattle.call_sound.proofs.Frame.{procedure_at}

@@ -1,16 +1,17 @@
 -- The text with calls that statements in order and their links stand for, where they keep all rules of texts with calls.
 use Rattle.std.specs.Prelude.{◌≡◌, ◌≤◌, ℕ, List, length, take, sum_by, slice_get, Some, None}
-use Rattle.il_core.specs.Checked.{AreInOrder}
+use Rattle.il_core.specs.Checked.{AreInOrder, IsChecked}
 use Rattle.il_core.specs.Statement.{Placed}
 use Rattle.il_core.specs.declared.statement.Link.{Link}
 use Rattle.il_core.specs.declared.statement.Mode.{Mode}
 use Rattle.il_core.specs.declared.statement.TypeUse.{TypeUse}
 use Rattle.il_syntax.specs.Order.{IsInOrder}
+use Rattle.il_blocks.specs.BlockLink.{AreLinks}
 use Rattle.il_built.specs.Holding.{Declares}
 use Rattle.il_called.specs.Called.{WrittenProcedure, WrittenText}
 use Rattle.il_called.specs.CalledText.{CallsFit, IsCalledText}
 use Rattle.il_called.specs.Expansion.{expansion_of, callees_of}
-use Rattle.call_checks.specs.WellFormed.{AreWellFormed}
+use Rattle.call_checks.specs.WellFormed.{AreWellFormed, without_calls}
 use Rattle.call_rules.specs.CalledText.{called_text}
 use Rattle.call_rules.specs.Limits.{lines_in, widths_of}
 use Rattle.call_rules.specs.Rules.{Answers}
@@ -46,3 +47,8 @@ HaveShortNames stmts = (i : ℕ) (m : Mode) (name : List ℕ) (used : TypeUse) �
 abbrev pub FormedAreChecked : Type 0
 FormedAreChecked = (stmts : List Placed) (links : List Link) → IsInOrder stmts → Answers stmts links None → HaveShortNames stmts
     → AreWellFormed (called_text stmts links).procs → IsCalledText (called_text stmts links)
+
+-- with a SKIP for each call, each procedure is a checked procedure
+abbrev pub UncalledAreChecked : Type 0
+UncalledAreChecked = (stmts : List Placed) (links : List Link) → IsInOrder stmts → AreLinks stmts links → Answers stmts links None
+    → (k : ℕ) (p : WrittenProcedure) → slice_get (called_text stmts links).procs k ≡ Some p → IsChecked (without_calls p)

@@ -1,5 +1,5 @@
 //! The laws of texts with calls that keep all rules, as contracts of functions that do nothing.
-ghost use Rattle.call_sound.specs.Laws.{CallsOfTextsFit, FormedAreChecked, TextsAreFramed, WidthsAreLengths};
+ghost use Rattle.call_sound.specs.Laws.{CallsOfTextsFit, FormedAreChecked, TextsAreFramed, UncalledAreChecked, WidthsAreLengths};
 
 /// The text with calls of statements in order that keep all rules has from 1 to 64 procedures and a profile, and the variables of
 /// each procedure stand before its OLD copies. This law costs nothing.
@@ -23,4 +23,10 @@ pub fn widths_are_lengths()
 /// with calls where its procedures are well formed. This law costs nothing.
 pub fn formed_are_checked()
     ensures { FormedAreChecked }
+{}
+
+/// With a SKIP for each call, each procedure of the text with calls of statements in order that have their links and keep all rules
+/// is a checked procedure. This law costs nothing.
+pub fn uncalled_are_checked()
+    ensures { UncalledAreChecked }
 {}

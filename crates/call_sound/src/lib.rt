@@ -4,4 +4,6 @@
 
 mod laws;
 
-pub use laws::{calls_fit, formed_are_checked, texts_are_framed, widths_are_lengths};
+pub use laws::{
+    calls_fit, formed_are_checked, texts_are_framed, uncalled_are_checked, widths_are_lengths,
+};
