@@ -1,6 +1,6 @@
 -- Each call of a text with calls that keeps all rules names an earlier procedure and has what suits its parameters, none of it handed back twice.
 use Rattle.std.proofs.Common.{◌≡◌, ℕ, ◌+◌, ◌-◌, ◌<◌, ◌≤◌, ◌∙◌, sym, ap, subst, refl, inl, inr, not, Bool, true, false, ◌||◌, List, [], ◌∷◌, arith, nat_eq}
-use Rattle.std.specs.Prelude.{Option, Some, None, is_some, map, filter, filter_map, slice_get, unwrap_or}
+use Rattle.std.specs.Prelude.{Option, Some, None, is_some, map, filter_map, slice_get, unwrap_or}
 use Rattle.std.specs.Cmp.Lexicographic.{pointwise}
 use Rattle.std.specs.List.{list_all, list_any, cons_option}
 use Rattle.std.specs.Option.{option_map}
@@ -10,7 +10,6 @@ use Rattle.il_core.specs.LineGraph.{IsIn}
 use Rattle.il_core.specs.Statement.{Statement, Placed, procedure}
 use Rattle.il_core.specs.Statement as st
 use Rattle.il_core.specs.Tree.{Tree}
-use Rattle.il_core.specs.declared.line.Place.{Place}
 use Rattle.il_core.specs.declared.refusal.Code.TheVariants as code
 use Rattle.il_core.specs.declared.statement.Link.{Link}
 use Rattle.il_syntax.specs.Order.{IsInOrder}
@@ -18,6 +17,7 @@ use Rattle.il_types.specs.declared.kind.Kind.{Kind}
 use Rattle.il_types.specs.declared.rules.Rule.TheVariants as rule
 use Rattle.il_types.specs.Built.{assigned_place}
 use Rattle.il_types.specs.Names.{Setting, Spot, counts_at, declaration}
+use Rattle.il_types.specs.Narrow.{static_bounds}
 use Rattle.il_types.specs.Typing.{kind_of_variable, may_hold}
 use Rattle.il_built.specs.Holding.{setting_at}
 use Rattle.il_built.proofs.BuiltRanges.{nowhere_at}
@@ -25,10 +25,10 @@ use Rattle.il_built.proofs.BuiltSorts.{both_true}
 use Rattle.il_built.proofs.Entered.{bound}
 use Rattle.il_called.specs.Called.{Passed, call, WrittenProcedure}
 use Rattle.il_called.specs.CalledText.{Suit, AreApart, returned_to, parameters_of}
-use Rattle.il_called.specs.Expansion.{Callee, is_parameter}
+use Rattle.il_called.specs.Expansion.{Callee}
 use Rattle.call_rules.specs.Callee.{Pairing, procedure_in, procedure_named, parameters_named, pairings}
 use Rattle.call_rules.specs.CalledText.{written_procedure, written_procedures, callees_before, callee_at, owner_at}
-use Rattle.call_rules.specs.Calls.{back_to, kind_given, takes_back, is_typed_pairing, fault_at}
+use Rattle.call_rules.specs.Calls.{back_to, kind_given, takes_back, is_allowed_pairing, is_typed_pairing, fault_at}
 use Rattle.call_rules.specs.Clash.{new_names}
 use Rattle.call_rules.specs.Fits.{is_one_each, is_suited, are_apart, is_short, fit_parameters, misfit_at}
 use Rattle.call_rules.specs.Parameters.{parameters}
@@ -39,7 +39,7 @@ use Rattle.call_sound.proofs.Apart.{HasPlace, has_place, one_name}
 use Rattle.call_sound.proofs.Frame.{procedure_at, procedure_below}
 use Rattle.call_sound.proofs.Kept.{KeepsCalls, keeps_calls, holds}
 use Rattle.call_sound.proofs.Lines.{IsCallAt, call_written}
-use Rattle.call_sound.proofs.Suited.{parameter_modes, same_modes, all_suit, returned_are}
+use Rattle.call_sound.proofs.Suited.{sort_of, parameter_sorts, sorts_of, same_sorts, all_suit, returned_are}
 
 -- each of these names stands for a variable of the procedure
 abbrev AllPlaced : List Placed → ℕ → ℕ → List (List ℕ) → Type 0
@@ -113,6 +113,8 @@ pub record IsFitted (stmts : List Placed) (links : List Link) (i : ℕ) (name : 
   pub apart : are_apart (filter_map back_to (pairings (parameters_named (setting_at stmts i) name) given)) ≡ true
   pub short : list_all is_short (new_names stmts links i name) ≡ true
   pub typed : list_all (is_typed_pairing (setting_at stmts i)) (pairings (parameters_named (setting_at stmts i) name) given) ≡ true
+  pub allowed : list_all (is_allowed_pairing (setting_at stmts i)) (pairings (parameters_named (setting_at stmts i) name) given) ≡ true
+  pub narrow : list_all (λ e. is_some (static_bounds (setting_at stmts i) e)) given ≡ true
 
 pub fitted : (stmts : List Placed) (links : List Link) (i : ℕ) (x : Placed) (name : List ℕ) (given : List Tree) → KeepsCalls stmts links → slice_get stmts i ≡ Some x
     → x.says ≡ st.call name given → IsFitted stmts links i name given
@@ -141,6 +143,8 @@ fitted stmts links i x name given keeps there says =
       apart = both.1;
       short = rest.1;
       typed = (both_true (is_some (procedure_named s name)) (list_all (is_typed_pairing s) gs) type).1;
+      allowed = holds _ code.Access (sym (ap (fault_at rule.Allowed stmts i) says) ∙ nowhere_at (fault_at rule.Allowed stmts) stmts i x keeps.allowed there);
+      narrow = holds _ code.Wide (sym (ap (fault_at rule.Narrow stmts i) says) ∙ nowhere_at (fault_at rule.Narrow stmts) stmts i x keeps.narrow there);
     }
 
 -- a call with what is known of its CALL
@@ -163,6 +167,14 @@ known stmts links k n c arguments p keeps there line =
     let few = few_before stmts links (owner_at stmts w.at) in
     record { line = w; fit = f; number = omega (arith, positive, number); below = omega (arith, within, few, own, number) }
 
+-- the parameters of the procedure that a CALL names have the modes and kinds that are asked there
+pub named_sorts : (stmts : List Placed) (links : List Link) (k n c : ℕ) (arguments : List Passed) (x : IsKnown stmts links k n c arguments) (name : List ℕ)
+    → map sort_of (parameters_of (written_procedure stmts links (1 + c) name)) ≡ parameter_sorts (parameters_named (setting_at stmts x.line.at) x.line.name)
+named_sorts stmts links k n c arguments x name =
+    let named : parameters_named (setting_at stmts x.line.at) x.line.name ≡ parameters stmts (1 + c) =
+    ap (λ o. unwrap_or (option_map (λ m. parameters stmts m) o) []) x.fit.named ∙ ap (parameters stmts) x.number in
+    ap sorts_of (variables_are stmts (1 + c)) ∙ same_sorts stmts (1 + c) ∙ sym (ap parameter_sorts named)
+
 pub calls_fit : CallsOfTextsFit
 calls_fit stmts links o a k p there n c arguments line =
     let x = known stmts links k n c arguments p (keeps_calls stmts links a) there line in
@@ -176,10 +188,7 @@ calls_fit stmts links o a k p there n c arguments line =
     let inside = q.below in
     let r = procedure_below stmts links c (omega (arith, below, inside)) in
     let callee = written_procedure stmts links (1 + c) r.0 in
-    let named : ps ≡ parameters stmts (1 + c) = ap (λ o. unwrap_or (option_map (λ m. parameters stmts m) o) []) f.named ∙ ap (parameters stmts) x.number in
-    let modes : map (λ (v : Place). v.mode) (parameters_of callee) ≡ parameter_modes ps =
-    ap (λ vs. map (λ (v : Place). v.mode) (filter (λ (v : Place). is_parameter v.mode) vs)) (variables_are stmts (1 + c)) ∙ same_modes stmts (1 + c) ∙ sym (ap parameter_modes named) in
-    let suit = subst (Suit (parameters_of callee)) w.passed (all_suit s (parameters_of callee) ps w.given modes f.one_each f.suited) in
+    let suit = subst (Suit (parameters_of callee)) w.passed (all_suit s (parameters_of callee) ps w.given (named_sorts stmts links k n c arguments x r.0) f.one_each f.suited) in
     let placed = all_placed stmts (1 + k) w.at gs o w.own f.typed in
     let apart = subst (λ xs. AreApart (returned_to xs)) w.passed (subst AreApart (sym (returned_are s gs)) (all_apart stmts (1 + k) w.at (filter_map back_to gs) placed f.apart)) in
     (below, (callee, r.1, suit, apart))

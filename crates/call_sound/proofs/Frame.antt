@@ -60,6 +60,11 @@ few_procedures stmts links keeps =
     let o = owner_is stmts (length stmts) in
     omega (arith, few, e, o)
 
+pub found : {A : Type 0} (xs : List A) (j : ℕ) → j < length xs → (x : A) × (slice_get xs j ≡ Some x)
+found [] j h = absurd (omega arith)
+found (x ∷ xs) zero h = (x, refl)
+found (x ∷ xs) (suc j) h = found xs j (omega arith)
+
 -- the procedure of a number, with its name
 pub record IsProcedureAt (stmts : List Placed) (links : List Link) (k : ℕ) (p : WrittenProcedure) : Type 0 where
   pub name : List ℕ
@@ -73,21 +78,11 @@ procedure_at stmts links k p there =
     let below : k < length (procedure_names stmts) = omega (arith, within, count) in
     let n = found (procedure_names stmts) k below in
     record { name = n.0; is = same_Some _ _ (sym there ∙ procedure_there stmts links 1 (procedure_names stmts) k n.0 n.1); below = below }
-  where
-    found : (names : List (List ℕ)) (j : ℕ) → j < length names → (name : List ℕ) × (slice_get names j ≡ Some name)
-    found [] j h = absurd (omega arith)
-    found (n ∷ names) zero h = (n, refl)
-    found (n ∷ names) (suc j) h = found names j (omega arith)
 
 -- below their number there is a procedure
 pub procedure_below : (stmts : List Placed) (links : List Link) (k : ℕ) → k < length (procedure_names stmts)
     → (name : List ℕ) × (slice_get (written_procedures stmts links) k ≡ Some (written_procedure stmts links (1 + k) name))
 procedure_below stmts links k below = let n = found (procedure_names stmts) k below in (n.0, procedure_there stmts links 1 (procedure_names stmts) k n.0 n.1)
-  where
-    found : (names : List (List ℕ)) (j : ℕ) → j < length names → (name : List ℕ) × (slice_get names j ≡ Some name)
-    found [] j h = absurd (omega arith)
-    found (n ∷ names) zero h = (n, refl)
-    found (n ∷ names) (suc j) h = found names j (omega arith)
 
 pub texts_are_framed : TextsAreFramed
 texts_are_framed stmts links o a =

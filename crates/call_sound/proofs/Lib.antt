@@ -12,3 +12,7 @@ pub mod Own
 pub mod Uncalled
 pub mod Positive
 pub mod Limited
+pub mod Given
+pub mod Small
+pub mod Formed
+pub mod Worked

@@ -1,5 +1,5 @@
 -- A procedure of a text with calls is, with a SKIP for each call, the procedure of the text without calls.
-use Rattle.std.proofs.Common.{◌≡◌, ℕ, zero, suc, ◌+◌, ◌<◌, ◌≤◌, ◌∙◌, sym, ap, subst, refl, inl, inr, List, [], ◌∷◌, ◌++◌, length, arith}
+use Rattle.std.proofs.Common.{◌≡◌, ℕ, zero, suc, ◌+◌, ◌≤◌, ◌∙◌, sym, ap, subst, refl, inl, inr, List, [], ◌∷◌, ◌++◌, length, arith}
 use Rattle.std.specs.Prelude.{Some, None, map, slice_get}
 use Rattle.std.proofs.lemmas.Bool.{cases_eq}
 use Rattle.std.proofs.lemmas.List.{map-append}
@@ -19,7 +19,7 @@ use Rattle.il_built.proofs.Given.{stands, given_by, given_next, given_here, not_
 use Rattle.il_called.specs.Called.{own, WrittenProcedure}
 use Rattle.call_checks.specs.WellFormed.{uncalled, without_calls}
 use Rattle.call_rules.specs.CalledText.{written_lines, written_procedure, written_procedures, lines_before}
-use Rattle.call_sound.proofs.Frame.{procedure_at}
+use Rattle.call_sound.proofs.Frame.{found, procedure_at}
 
 own_lines : (is : List Instruction) → map uncalled (map own is) ≡ is
 own_lines [] = refl
@@ -56,8 +56,3 @@ uncalled_checked stmts links k p o ls a there =
     let same = lines_uncalled stmts links (1 + k) (length stmts) (omega arith) in
     subst (λ (r : WrittenProcedure). IsChecked (without_calls r)) (sym q.is)
     (subst (λ ls. IsChecked (record { places = (written_procedure stmts links (1 + k) q.name).places; lines = ls })) (sym same) c)
-  where
-    found : {A : Type 0} (xs : List A) (j : ℕ) → j < length xs → (x : A) × (slice_get xs j ≡ Some x)
-    found [] j h = absurd (omega arith)
-    found (x ∷ xs) zero h = (x, refl)
-    found (x ∷ xs) (suc j) h = found xs j (omega arith)

@@ -1,5 +1,5 @@
 -- What stands for statements that keep all rules is a checked text with calls where its procedures are well formed.
-use Rattle.std.proofs.Common.{◌≡◌, ℕ, zero, suc, ◌+◌, ◌<◌, ◌≤◌, ◌∙◌, sym, ap, subst, refl, List, [], ◌∷◌, ◌++◌, length, take, drop, arith}
+use Rattle.std.proofs.Common.{◌≡◌, ℕ, zero, suc, ◌+◌, ◌≤◌, ◌∙◌, sym, ap, subst, refl, List, [], ◌∷◌, ◌++◌, length, take, drop, arith}
 use Rattle.std.specs.Prelude.{Some, None, filter, sum_by, slice_get}
 use Rattle.std.proofs.lemmas.List.{length-append, length-map, take-append-drop}
 use Rattle.std.proofs.lemmas.Option.{same_Some, slice_get_within}
@@ -22,7 +22,7 @@ use Rattle.call_limits.proofs.Variables.{variables_are, copies_behind}
 use Rattle.call_limits.proofs.Widths.{length_places}
 use Rattle.call_sound.specs.Laws.{FormedAreChecked}
 use Rattle.call_sound.proofs.Fits.{calls_fit}
-use Rattle.call_sound.proofs.Frame.{procedure_at, texts_are_framed}
+use Rattle.call_sound.proofs.Frame.{found, procedure_at, texts_are_framed}
 use Rattle.call_sound.proofs.Kept.{keeps_calls}
 use Rattle.call_sound.proofs.Limits.{keeps_size}
 use Rattle.call_sound.proofs.Short.{AreShort, expanded_short, short_in}
@@ -37,11 +37,6 @@ record IsMade (procs : List WrittenProcedure) (k : ℕ) (callee : Callee) : Type
   written : WrittenProcedure
   there : slice_get procs k ≡ Some written
   is : callee ≡ made (callees_of (take k procs)) written
-
-found : {A : Type 0} (xs : List A) (j : ℕ) → j < length xs → (x : A) × (slice_get xs j ≡ Some x)
-found [] j h = absurd (omega arith)
-found (x ∷ xs) zero h = (x, refl)
-found (x ∷ xs) (suc j) h = found xs j (omega arith)
 
 taken : {A : Type 0} (xs : List A) (k : ℕ) → k ≤ length xs → length (take k xs) ≡ k
 taken xs zero h = refl

@@ -1,13 +1,15 @@
 -- The text with calls that statements in order and their links stand for, where they keep all rules of texts with calls.
 use Rattle.std.specs.Prelude.{◌≡◌, ◌≤◌, ℕ, List, length, take, sum_by, slice_get, Some, None}
+use Rattle.il_core.specs.Bounds.{AreSmall, place_bounds}
 use Rattle.il_core.specs.Checked.{AreInOrder, IsChecked}
-use Rattle.il_core.specs.Statement.{Placed}
+use Rattle.il_core.specs.Statement.{Placed, variable}
 use Rattle.il_core.specs.declared.statement.Link.{Link}
 use Rattle.il_core.specs.declared.statement.Mode.{Mode}
 use Rattle.il_core.specs.declared.statement.TypeUse.{TypeUse}
 use Rattle.il_syntax.specs.Order.{IsInOrder}
 use Rattle.il_blocks.specs.BlockLink.{AreLinks}
-use Rattle.il_built.specs.Holding.{Declares}
+use Rattle.il_types.specs.Built.{place_of}
+use Rattle.il_built.specs.Holding.{Declares, setting_at}
 use Rattle.il_called.specs.Called.{WrittenProcedure, WrittenText}
 use Rattle.il_called.specs.CalledText.{CallsFit, IsCalledText}
 use Rattle.il_called.specs.Expansion.{expansion_of, callees_of}
@@ -43,6 +45,11 @@ WidthsAreLengths = (stmts : List Placed) (links : List Link) → IsInOrder stmts
 abbrev pub HaveShortNames : List Placed → Type 0
 HaveShortNames stmts = (i : ℕ) (m : Mode) (name : List ℕ) (used : TypeUse) → Declares stmts i m name used → length name ≤ 40
 
+-- the ranges of variables lie within 2 ^ 126 on either side of 0, both allowed
+abbrev pub HaveSmallBounds : List Placed → Type 0
+HaveSmallBounds stmts = (i : ℕ) (m : Mode) (name : List ℕ) (used : TypeUse) → Declares stmts i m name used
+    → AreSmall (place_bounds (Some (place_of (setting_at stmts i) (variable m name used))))
+
 -- where its procedures are well formed, it is a checked text with calls
 abbrev pub FormedAreChecked : Type 0
 FormedAreChecked = (stmts : List Placed) (links : List Link) → IsInOrder stmts → Answers stmts links None → HaveShortNames stmts
@@ -52,3 +59,8 @@ FormedAreChecked = (stmts : List Placed) (links : List Link) → IsInOrder stmts
 abbrev pub UncalledAreChecked : Type 0
 UncalledAreChecked = (stmts : List Placed) (links : List Link) → IsInOrder stmts → AreLinks stmts links → Answers stmts links None
     → (k : ℕ) (p : WrittenProcedure) → slice_get (called_text stmts links).procs k ≡ Some p → IsChecked (without_calls p)
+
+-- statements that keep all rules stand for a checked text with calls
+abbrev pub AcceptedAreChecked : Type 0
+AcceptedAreChecked = (stmts : List Placed) (links : List Link) → IsInOrder stmts → AreLinks stmts links → Answers stmts links None → HaveShortNames stmts
+    → HaveSmallBounds stmts → IsCalledText (called_text stmts links)

@@ -5,5 +5,6 @@
 mod laws;
 
 pub use laws::{
-    calls_fit, formed_are_checked, texts_are_framed, uncalled_are_checked, widths_are_lengths,
+    accepted_are_checked, calls_fit, formed_are_checked, texts_are_framed, uncalled_are_checked,
+    widths_are_lengths, worked_text,
 };

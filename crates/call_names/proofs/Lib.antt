@@ -1,0 +1,11 @@
+pub mod Joined
+pub mod Passing
+pub mod Brought
+pub mod Parts
+pub mod Steps
+pub mod Lists
+pub mod Outlined
+pub mod Clashes
+pub mod Owned
+pub mod Turns
+pub mod AlikeTables

@@ -1,0 +1,114 @@
+//! The first name that a text with calls declares twice.
+ghost use Rattle.std.specs.Prelude.{◌≡◌, ◌+◌, ◌-◌, ◌<◌, ◌^◌, List, map, length, take, drop, IfOk};
+ghost use Rattle.il_core.specs.Statement.{placed, statement_of};
+ghost use Rattle.il_core.specs.declared.statement.Link.{Link};
+ghost use Rattle.il_called.specs.Called.{WrittenProcedure};
+ghost use Rattle.il_types.specs.Counted.{AreCounted};
+ghost use Rattle.il_types.specs.Names.{front_of};
+ghost use Rattle.il_types.specs.Rules.{IsRefused};
+ghost use Rattle.call_rules.specs.Clash.{twice_at};
+ghost use Rattle.call_names.specs.Outlines.{AreOutlined};
+ghost use Rattle.call_names.specs.Alike.{AreAlike};
+ghost use Rattle.call_names.specs.Gathered.{clash_in, calls_behind};
+ghost use Rattle.call_names.specs.Doubled.{IsFirstDoubled, doubled_at};
+
+use crate::clash::clash;
+use crate::gathering::outlines_of;
+use crate::outline::Outline;
+use il_core::{Code, Form, Name, NoMemory, Refusal, Stmt};
+use il_types::{Counts, Names, Setting, counts_before, naming, refusal_of};
+use std::alloc::Global;
+
+/// A statement that declares a name that is taken.
+#[derive(Clone, Copy)]
+pub struct Doubled {
+    /// The number of the statement, counted from 0.
+    pub at: usize,
+    /// The first of its names that is taken.
+    pub name: Name,
+}
+
+/// The first of the new names that a statement brings, behind so many CALLs of its procedure, that is a variable of the procedure.
+fn clash_in(
+    alloc: Global,
+    outlines: &[Outline],
+    setting: &Setting<'_>,
+    owner: usize,
+    calls: usize,
+    form: &Form,
+) -> Result<Option<Name>, NoMemory>
+    requires owner { owner ≡ setting.now.owner }
+    requires inside { owner < length outlines.now }
+    requires room { calls + 1 < 2 ^ 64 }
+    ensures { IfOk result (λ o. (procs : List WrittenProcedure) → AreOutlined procs (take (owner - 1) (drop 1 outlines.now)) → o ≡ clash_in procs outlines.now setting.now calls (statement_of form.now)) }
+{
+    match form {
+        Form::Call(name, _) => clash(alloc, outlines, setting, owner, calls, name),
+        _ => Ok(None),
+    }
+}
+
+/// The CALLs of the latest procedure behind a statement.
+fn calls_behind(calls: usize, form: &Form) -> usize
+    requires { calls + 1 < 2 ^ 64 }
+    ensures { result ≡ calls_behind calls (statement_of form.now) }
+{
+    match form {
+        Form::Proc(_) => 0,
+        Form::Call(_, _) => calls + 1,
+        _ => calls,
+    }
+}
+
+/// The name that a statement of a number declares although it is taken, where it is the first such statement.
+fn doubled_at(doubled: &Option<Doubled>, at: usize) -> Option<Name>
+    ensures { result ≡ doubled_at doubled.now at }
+{
+    match doubled {
+        None => None,
+        Some(it) => if it.at == at { Some(it.name) } else { None },
+    }
+}
+
+/// The refusal of a text with calls by its names (`Code::Twice`, with the name), or `None` exactly where none is declared twice: the first
+/// statement that declares a name that is taken, or that CALLs an earlier procedure of which a place's new name is a variable of the
+/// caller. Given is the first statement of the former kind, with the name; the declarations given may leave out those of a name that its
+/// scope has already. An error comes where memory runs out. No call is expanded: beside the look-ups by name the time for a CALL is that of
+/// comparing the caller's variables with the outlines into which their names lead, for each name at most one at each depth, and no deeper
+/// than it has bytes.
+pub fn first_twice(
+    alloc: Global,
+    names: &Names,
+    before: &[Counts],
+    stmts: &[Stmt],
+    doubled: Option<Doubled>,
+) -> Result<Option<Refusal>, NoMemory>
+    requires counted { AreCounted (map placed stmts.now) before.now }
+    requires names { AreAlike names.now (front_of (map placed stmts.now)).table }
+    requires doubled { IsFirstDoubled (map placed stmts.now) doubled }
+    ensures { IfOk result (λ o. (links : List Link) → IsRefused (twice_at (map placed stmts.now) links) (map placed stmts.now) o) }
+{
+    let outlines = outlines_of(alloc, names, before, stmts)?;
+    let mut calls = 0;
+    for (i, stmt) in stmts.iter().enumerate() {
+        let owner = counts_before(before, stmts, i).procedures;
+        let setting = Setting::new(names, before, stmts, owner, i);
+        match clash_in(
+            alloc,
+            outlines.as_slice(),
+            &setting,
+            owner,
+            calls,
+            &stmt.form,
+        )? {
+            Some(name) => return Ok(Some(refusal_of(naming(Code::Twice, name), stmt.place))),
+            None => {}
+        }
+        match doubled_at(&doubled, i) {
+            Some(name) => return Ok(Some(refusal_of(naming(Code::Twice, name), stmt.place))),
+            None => {}
+        }
+        calls = calls_behind(calls, &stmt.form);
+    }
+    Ok(None)
+}
