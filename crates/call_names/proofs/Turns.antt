@@ -26,8 +26,8 @@ use Rattle.call_rules.specs.Clash.{new_names, new_names_of, is_own_variable, cla
 use Rattle.call_limits.proofs.Passed.{later, none_yet, given_more}
 use Rattle.call_names.specs.declared.outline.Outline.{Outline}
 use Rattle.call_names.specs.declared.outline.Variable.{Variable}
-use Rattle.call_names.specs.declared.twice.Doubled.{Doubled}
-use Rattle.call_names.specs.Doubled.{IsFirstDoubled, doubled_at}
+use Rattle.call_names.specs.declared.twice.Redeclaration.{Redeclaration}
+use Rattle.call_names.specs.Redeclaration.{IsFirstRedeclaration, redeclared_at}
 use Rattle.call_names.specs.Gathered.{AreGathered, called_in, calls_behind, clash_found, clash_in, own_names}
 use Rattle.call_names.specs.Outlines.{callee_in, AreOutlined}
 use Rattle.call_names.specs.Search.{is_among, names_under}
@@ -129,13 +129,13 @@ plain_at stmts links i x f e = e
 taken_at : (stmts : List Placed) (i : ℕ) (x : Placed) → slice_get stmts i ≡ Some x → at_stmt (twice stmts) stmts i ≡ twice stmts i x.says
 taken_at stmts i x there = ap (option_and_then (λ (y : Placed). twice stmts i y.says)) there
 
-pub doubled_here : (stmts : List Placed) (links : List Link) (doubled : Option Doubled) (i : ℕ) (x : Placed) (name : List ℕ) → slice_get stmts i ≡ Some x → IsFirstDoubled stmts doubled
-    → doubled_at doubled i ≡ Some name → twice_at stmts links i x.says ≡ Some (naming code.Twice name)
-doubled_here stmts links None i x name there d e = absurd (none e)
+pub redeclaration_here : (stmts : List Placed) (links : List Link) (redeclaration : Option Redeclaration) (i : ℕ) (x : Placed) (name : List ℕ) → slice_get stmts i ≡ Some x → IsFirstRedeclaration stmts redeclaration
+    → redeclared_at redeclaration i ≡ Some name → twice_at stmts links i x.says ≡ Some (naming code.Twice name)
+redeclaration_here stmts links None i x name there d e = absurd (none e)
   where
     none : {A : Type 0} {y : A} → None ≡ Some y → ⊥
     none h = cc
-doubled_here stmts links (Some it) i x name there d e = by (nat_eq it.at i) refl e
+redeclaration_here stmts links (Some it) i x name there d e = by (nat_eq it.at i) refl e
   where
     same : (a b : ℕ) → nat_eq a b ≡ true → a ≡ b
     same a b h = grind arith
@@ -148,8 +148,8 @@ doubled_here stmts links (Some it) i x name there d e = by (nat_eq it.at i) refl
     by false h f = absurd (cc)
 
 -- nothing is found
-plain_none : (stmts : List Placed) (links : List Link) (doubled : Option Doubled) (i : ℕ) (x : Placed) → slice_get stmts i ≡ Some x → IsFirstDoubled stmts doubled
-    → doubled_at doubled i ≡ None → ((k : ℕ) → k < i → at_stmt (twice_at stmts links) stmts k ≡ None) → twice stmts i x.says ≡ None
+plain_none : (stmts : List Placed) (links : List Link) (redeclaration : Option Redeclaration) (i : ℕ) (x : Placed) → slice_get stmts i ≡ Some x → IsFirstRedeclaration stmts redeclaration
+    → redeclared_at redeclaration i ≡ None → ((k : ℕ) → k < i → at_stmt (twice_at stmts links) stmts k ≡ None) → twice stmts i x.says ≡ None
 plain_none stmts links None i x there d e before = sym (taken_at stmts i x there) ∙ d i
 plain_none stmts links (Some it) i x there d e before = elim (cases_lt i it.at) [
   | inl less ↦ sym (taken_at stmts i x there) ∙ d.1 i less
@@ -174,11 +174,11 @@ plain_none stmts links (Some it) i x there d e before = elim (cases_lt i it.at) 
         let f : at_stmt (twice_at stmts links) stmts it.at ≡ twice_at stmts links it.at y.says = ap (option_and_then (λ (z : Placed). twice_at stmts links it.at z.says)) h in
         let g = before it.at less in cc
 
-pub none_here : (stmts : List Placed) (links : List Link) (outlines : List Outline) (doubled : Option Doubled) (i calls : ℕ) (x : Placed) → slice_get stmts i ≡ Some x → AreGathered stmts outlines
+pub none_here : (stmts : List Placed) (links : List Link) (outlines : List Outline) (redeclaration : Option Redeclaration) (i calls : ℕ) (x : Placed) → slice_get stmts i ≡ Some x → AreGathered stmts outlines
     → calls ≡ length (calls_to stmts (counts_at stmts i).procedures i)
     → clash_in (take ((counts_at stmts i).procedures - 1) (written_procedures stmts links)) outlines (setting_at stmts i) calls x.says ≡ None
-    → IsFirstDoubled stmts doubled → doubled_at doubled i ≡ None → ((k : ℕ) → k < i → at_stmt (twice_at stmts links) stmts k ≡ None) → twice_at stmts links i x.says ≡ None
-none_here stmts links outlines doubled i calls x there g e f d n before = by x.says f (plain_none stmts links doubled i x there d n before)
+    → IsFirstRedeclaration stmts redeclaration → redeclared_at redeclaration i ≡ None → ((k : ℕ) → k < i → at_stmt (twice_at stmts links) stmts k ≡ None) → twice_at stmts links i x.says ≡ None
+none_here stmts links outlines redeclaration i calls x there g e f d n before = by x.says f (plain_none stmts links redeclaration i x there d n before)
   where
     by : (says : Statement) → clash_in (take ((counts_at stmts i).procedures - 1) (written_procedures stmts links)) outlines (setting_at stmts i) calls says ≡ None
         → twice stmts i says ≡ None → twice_at stmts links i says ≡ None

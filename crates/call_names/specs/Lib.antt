@@ -1,5 +1,5 @@
 pub mod Search
 pub mod Outlines
 pub mod Gathered
-pub mod Doubled
+pub mod Redeclaration
 pub mod Alike

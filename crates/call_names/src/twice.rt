@@ -10,7 +10,7 @@ ghost use Rattle.call_rules.specs.Clash.{twice_at};
 ghost use Rattle.call_names.specs.Outlines.{AreOutlined};
 ghost use Rattle.call_names.specs.Alike.{AreAlike};
 ghost use Rattle.call_names.specs.Gathered.{clash_in, calls_behind};
-ghost use Rattle.call_names.specs.Doubled.{IsFirstDoubled, doubled_at};
+ghost use Rattle.call_names.specs.Redeclaration.{IsFirstRedeclaration, redeclared_at};
 
 use crate::clash::clash;
 use crate::gathering::outlines_of;
@@ -19,9 +19,9 @@ use il_core::{Code, Form, Name, NoMemory, Refusal, Stmt};
 use il_types::{Counts, Names, Setting, counts_before, naming, refusal_of};
 use std::alloc::Global;
 
-/// A statement that declares a name that is taken.
+/// A statement that redeclares a name: one that is taken.
 #[derive(Clone, Copy)]
-pub struct Doubled {
+pub struct Redeclaration {
     /// The number of the statement, counted from 0.
     pub at: usize,
     /// The first of its names that is taken.
@@ -61,10 +61,10 @@ fn calls_behind(calls: usize, form: &Form) -> usize
 }
 
 /// The name that a statement of a number declares although it is taken, where it is the first such statement.
-fn doubled_at(doubled: &Option<Doubled>, at: usize) -> Option<Name>
-    ensures { result ≡ doubled_at doubled.now at }
+fn redeclared_at(redeclaration: &Option<Redeclaration>, at: usize) -> Option<Name>
+    ensures { result ≡ redeclared_at redeclaration.now at }
 {
-    match doubled {
+    match redeclaration {
         None => None,
         Some(it) => if it.at == at { Some(it.name) } else { None },
     }
@@ -73,19 +73,18 @@ fn doubled_at(doubled: &Option<Doubled>, at: usize) -> Option<Name>
 /// The refusal of a text with calls by its names (`Code::Twice`, with the name), or `None` exactly where none is declared twice: the first
 /// statement that declares a name that is taken, or that CALLs an earlier procedure of which a place's new name is a variable of the
 /// caller. Given is the first statement of the former kind, with the name; the declarations given may leave out those of a name that its
-/// scope has already. An error comes where memory runs out. No call is expanded: beside the look-ups by name the time for a CALL is that of
-/// comparing the caller's variables with the outlines into which their names lead, for each name at most one at each depth, and no deeper
-/// than it has bytes.
+/// scope has already. An error comes where memory runs out. No call is expanded: each CALL is compared with all variables of its
+/// procedure, and the search goes on only where some of their names begin as the new names do, so no deeper than these have bytes.
 pub fn first_twice(
     alloc: Global,
     names: &Names,
     before: &[Counts],
     stmts: &[Stmt],
-    doubled: Option<Doubled>,
+    redeclaration: Option<Redeclaration>,
 ) -> Result<Option<Refusal>, NoMemory>
     requires counted { AreCounted (map placed stmts.now) before.now }
     requires names { AreAlike names.now (front_of (map placed stmts.now)).table }
-    requires doubled { IsFirstDoubled (map placed stmts.now) doubled }
+    requires redeclaration { IsFirstRedeclaration (map placed stmts.now) redeclaration }
     ensures { IfOk result (λ o. (links : List Link) → IsRefused (twice_at (map placed stmts.now) links) (map placed stmts.now) o) }
 {
     let outlines = outlines_of(alloc, names, before, stmts)?;
@@ -104,7 +103,7 @@ pub fn first_twice(
             Some(name) => return Ok(Some(refusal_of(naming(Code::Twice, name), stmt.place))),
             None => {}
         }
-        match doubled_at(&doubled, i) {
+        match redeclared_at(&redeclaration, i) {
             Some(name) => return Ok(Some(refusal_of(naming(Code::Twice, name), stmt.place))),
             None => {}
         }

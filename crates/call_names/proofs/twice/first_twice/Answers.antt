@@ -11,7 +11,7 @@ use Rattle.il_types.proofs.Passing.{here, refuses_here, before_more, nowhere}
 use Rattle.call_rules.specs.Clash.{twice_at}
 use Rattle.call_names.specs.declared.outline.Outline.{Outline}
 use Rattle.call_names.proofs.AlikeTables.{clash_alike}
-use Rattle.call_names.proofs.Turns.{inside, clash_here, doubled_here, none_here, calls_next, clash_read_here, few_behind}
+use Rattle.call_names.proofs.Turns.{inside, clash_here, redeclaration_here, none_here, calls_next, clash_read_here, few_behind}
 use Rattle.call_names.proofs.twice.first_twice.Goals as goal
 
 pub clash_in-requires-clause-inside : goal.clash_in-requires-clause-inside
@@ -36,16 +36,16 @@ returns-in-Some c = λ links.
     (clash_here all links os i c.loop-i.calls (statement_of x.form) c.in-Some.name c.in_ok-outlines.ensures c.loop-i.invariant.calls (sym found ∙ c.in-Some.is))
     (c.refusal_of.ensures ∙ ap (λ (f : Found). refusal_of f x.place) c.naming.ensures)
 
-pub returns-in-Some-doubled_at : goal.returns-in-Some-doubled_at
-returns-in-Some-doubled_at c = λ links.
+pub returns-in-Some-redeclared_at : goal.returns-in-Some-redeclared_at
+returns-in-Some-redeclared_at c = λ links.
     let all = map placed c.args.stmts.now in
     let i = c.loop-i.i in
     let x = c.index-stmts-i.result in
     let there = here c.args.stmts.now i x c.loop-i-test.true c.index-stmts-i.is in
-    refuses_here (twice_at all links) c.args.stmts.now i x (naming code.Twice c.in-Some-doubled_at.name) c.refusal_of-in-Some-doubled_at.result c.loop-i-test.true c.index-stmts-i.is
+    refuses_here (twice_at all links) c.args.stmts.now i x (naming code.Twice c.in-Some-redeclared_at.name) c.refusal_of-in-Some-redeclared_at.result c.loop-i-test.true c.index-stmts-i.is
     (c.loop-i.invariant.before links)
-    (doubled_here all links c.args.doubled i (placed x) c.in-Some-doubled_at.name there c.requires.doubled (sym c.doubled_at.ensures ∙ c.in-Some-doubled_at.is))
-    (c.refusal_of-in-Some-doubled_at.ensures ∙ ap (λ (f : Found). refusal_of f x.place) c.naming-in-Some-doubled_at.ensures)
+    (redeclaration_here all links c.args.redeclaration i (placed x) c.in-Some-redeclared_at.name there c.requires.redeclaration (sym c.redeclared_at.ensures ∙ c.in-Some-redeclared_at.is))
+    (c.refusal_of-in-Some-redeclared_at.ensures ∙ ap (λ (f : Found). refusal_of f x.place) c.naming-in-Some-redeclared_at.ensures)
 
 pub loop-i-preserved : goal.loop-i-preserved
 loop-i-preserved c =
@@ -63,8 +63,8 @@ loop-i-preserved c =
           let found = clash_read_here all links os c.as_slice.result.now c.counts_before-owner.result.procedures i c.loop-i.calls c.new-setting.result (statement_of x.form) c.in_ok-name.field-0
           c.in_ok-outlines.ensures c.as_slice.ensures.value owner alike c.in_ok-name.ensures in
           before_more (twice_at all links) c.args.stmts.now i x c.loop-i-test.true c.index-stmts-i.is (c.loop-i.invariant.before links)
-          (none_here all links os c.args.doubled i c.loop-i.calls (placed x) there c.in_ok-outlines.ensures c.loop-i.invariant.calls (sym found ∙ c.in-None.is) c.requires.doubled
-          (sym c.doubled_at.ensures ∙ c.in-None-doubled_at.is) (c.loop-i.invariant.before links));
+          (none_here all links os c.args.redeclaration i c.loop-i.calls (placed x) there c.in_ok-outlines.ensures c.loop-i.invariant.calls (sym found ∙ c.in-None.is) c.requires.redeclaration
+          (sym c.redeclared_at.ensures ∙ c.in-None-redeclared_at.is) (c.loop-i.invariant.before links));
     }
 
 pub returns : goal.returns
