@@ -111,6 +111,7 @@ class Grammar(unittest.TestCase):
             ("12IF", ["constant.numeric.decimal"] * 2 + ["keyword.control"] * 2),
             ("PROC IF", ["keyword.other.structure"] * 4 + [""] + ["keyword.control"] * 2),
             ("PROC p1", ["keyword.other.structure"] * 4 + [""] + ["entity.name.function"] * 2),
+            ("CALL p1(a)", ["keyword.control.jump"] * 4 + [""] + ["entity.name.function"] * 2 + ["punctuation.section.parens", "variable.other", "punctuation.section.parens"]),
             ("a#b", ["variable.other", "invalid.illegal", "variable.other"]),
             ("[IF;]IF", ["comment.block"] * 5 + ["keyword.control"] * 2),
             ("[IF\n;]IF", ["comment.block"] * 6 + ["keyword.control"] * 2),

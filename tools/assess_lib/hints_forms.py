@@ -211,8 +211,6 @@ def call_form(case: Case) -> Optional[str]:
             return f"a call without arguments has no parentheses: CALL {words[1]};"
         if len(words) > 2 and words[2] != "(":
             return f"the arguments stand in parentheses with commas between: CALL {words[1]} (a, b);"
-        if len(words) == 2 or words[-1:] == [")"]:
-            return "CALL is a reserved word, and this malpas has no calls: write the procedure's statements here"
         return "a call is written CALL name; or CALL name (a, b);"
     if len(words) > 1 and words[0] not in KEYWORDS and words[1] == "(" and words[0][0].isalpha():
         return f"a procedure is called by CALL {words[0]} ( .. );"

@@ -1,4 +1,5 @@
 pub mod DecidedTokens
+pub mod DecidedArguments
 pub mod DecidedStatements
 pub mod DecidedBlocks
 pub mod DecidedRules

@@ -8,11 +8,11 @@ use Rattle.il_types.specs.Names.{Table, Setting, setting, same_key, earlier, of_
 use Rattle.il_built.specs.Holding.{setting_at}
 use Rattle.il_called.specs.Called.{WrittenProcedure}
 use Rattle.call_rules.specs.Callee.{procedure_in, procedure_named}
-use Rattle.call_names.specs.Alike.{AreAlike}
+use Rattle.il_types.specs.Names.{FindAlike}
 use Rattle.call_names.specs.Gathered.{called_in, clash_found, clash_in, own_names}
 use Rattle.call_names.specs.declared.outline.Outline.{Outline}
 
-module _ (t u : Table) (e : AreAlike t u) (stmts : List Placed) (owner i : ℕ) where
+module _ (t u : Table) (e : FindAlike t u) (stmts : List Placed) (owner i : ℕ) where
   in_force_alike : (name : List ℕ) → in_force (setting t stmts owner i) name ≡ in_force (setting u stmts owner i) name
   in_force_alike name =
       ap (λ o. option_or (if nat_eq owner 0 then None else o) (earlier i (lookup (same_key (0, name)) t))) (e (owner, name))
@@ -32,7 +32,7 @@ module _ (t u : Table) (e : AreAlike t u) (stmts : List Placed) (owner i : ℕ) 
   clash_in_both procs outlines calls x = refl
 
 -- what a statement calls, and the clash there, by a setting as it is read
-module _ (t : Table) (stmts : List Placed) (owner i : ℕ) (s : Setting) (e : AreAlike t (front_of stmts).table) (o : owner ≡ (counts_at stmts i).procedures)
+module _ (t : Table) (stmts : List Placed) (owner i : ℕ) (s : Setting) (e : FindAlike t (front_of stmts).table) (o : owner ≡ (counts_at stmts i).procedures)
     (is : s ≡ setting t stmts owner i) where
   at : s ≡ setting t stmts (counts_at stmts i).procedures i
   at = is ∙ ap (λ n. setting t stmts n i) o

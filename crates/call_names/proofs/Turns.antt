@@ -26,8 +26,9 @@ use Rattle.call_rules.specs.Clash.{new_names, new_names_of, is_own_variable, cla
 use Rattle.call_limits.proofs.Passed.{later, none_yet, given_more}
 use Rattle.call_names.specs.declared.outline.Outline.{Outline}
 use Rattle.call_names.specs.declared.outline.Variable.{Variable}
-use Rattle.call_names.specs.declared.twice.Redeclaration.{Redeclaration}
-use Rattle.call_names.specs.Redeclaration.{IsFirstRedeclaration, redeclared_at}
+use Rattle.il_types.specs.declared.names.Redeclaration.{Redeclaration}
+use Rattle.il_types.specs.Redeclaration.{IsFirstRedeclaration}
+use Rattle.call_names.specs.Gathered.{redeclared_at}
 use Rattle.call_names.specs.Gathered.{AreGathered, called_in, calls_behind, clash_found, clash_in, own_names}
 use Rattle.call_names.specs.Outlines.{callee_in, AreOutlined}
 use Rattle.call_names.specs.Search.{is_among, names_under}

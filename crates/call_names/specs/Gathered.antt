@@ -3,6 +3,7 @@ use Rattle.std.specs.Prelude.{◌≡◌, ℕ, ◌+◌, ◌-◌, List, [], ◌∷
 use Rattle.il_core.specs.Run.{is_inout}
 use Rattle.il_core.specs.Statement.{Statement, Placed, procedure, variable, call}
 use Rattle.il_types.specs.Names.{Setting, front_of}
+use Rattle.il_types.specs.declared.names.Redeclaration.{Redeclaration}
 use Rattle.il_built.specs.CheckedText.{given}
 use Rattle.il_built.specs.Holding.{setting_at}
 use Rattle.il_called.specs.Called.{WrittenProcedure}
@@ -56,3 +57,8 @@ abbrev pub calls_behind : ℕ → Statement → ℕ
 calls_behind calls (procedure name) = 0
 calls_behind calls (call name arguments) = calls + 1
 calls_behind calls _ = calls
+
+-- the name that a statement of a number declares although it is taken, where it is the first such statement
+abbrev pub redeclared_at : Option Redeclaration → ℕ → Option (List ℕ)
+redeclared_at None at = None
+redeclared_at (Some d) at = if nat_eq d.at at then Some d.name else None

@@ -6,7 +6,7 @@ ghost use Rattle.il_core.specs.Run.{is_inout};
 ghost use Rattle.il_types.specs.Counted.{AreCounted};
 ghost use Rattle.il_types.specs.Names.{front_of};
 ghost use Rattle.call_rules.specs.Parameters.{is_procedure};
-ghost use Rattle.call_names.specs.Alike.{AreAlike};
+ghost use Rattle.il_types.specs.Names.{FindAlike};
 ghost use Rattle.call_names.specs.Gathered.{declared_variable, called_in, AreGathered, callee_named};
 
 use crate::outline::{Outline, Variable};
@@ -79,7 +79,7 @@ pub(crate) fn outlines_of(
     stmts: &[Stmt],
 ) -> Result<Vec<Outline>, NoMemory>
     requires counted { AreCounted (map placed stmts.now) before.now }
-    requires names { AreAlike names.now (front_of (map placed stmts.now)).table }
+    requires names { FindAlike names.now (front_of (map placed stmts.now)).table }
     ensures { IfOk result (λ v. AreGathered (map placed stmts.now) v.items) }
 {
     let mut outlines = Vec::new(alloc);

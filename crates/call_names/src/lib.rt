@@ -11,4 +11,4 @@ mod search;
 mod stem;
 mod twice;
 
-pub use twice::{Redeclaration, first_twice};
+pub use twice::first_twice;

@@ -8,25 +8,16 @@ ghost use Rattle.il_types.specs.Names.{front_of};
 ghost use Rattle.il_types.specs.Rules.{IsRefused};
 ghost use Rattle.call_rules.specs.Clash.{twice_at};
 ghost use Rattle.call_names.specs.Outlines.{AreOutlined};
-ghost use Rattle.call_names.specs.Alike.{AreAlike};
-ghost use Rattle.call_names.specs.Gathered.{clash_in, calls_behind};
-ghost use Rattle.call_names.specs.Redeclaration.{IsFirstRedeclaration, redeclared_at};
+ghost use Rattle.il_types.specs.Names.{FindAlike};
+ghost use Rattle.il_types.specs.Redeclaration.{IsFirstRedeclaration};
+ghost use Rattle.call_names.specs.Gathered.{clash_in, calls_behind, redeclared_at};
 
 use crate::clash::clash;
 use crate::gathering::outlines_of;
 use crate::outline::Outline;
 use il_core::{Code, Form, Name, NoMemory, Refusal, Stmt};
-use il_types::{Counts, Names, Setting, counts_before, naming, refusal_of};
+use il_types::{Counts, Names, Redeclaration, Setting, counts_before, naming, refusal_of};
 use std::alloc::Global;
-
-/// A statement that redeclares a name: one that is taken.
-#[derive(Clone, Copy)]
-pub struct Redeclaration {
-    /// The number of the statement, counted from 0.
-    pub at: usize,
-    /// The first of its names that is taken.
-    pub name: Name,
-}
 
 /// The first of the new names that a statement brings, behind so many CALLs of its procedure, that is a variable of the procedure.
 fn clash_in(
@@ -83,7 +74,7 @@ pub fn first_twice(
     redeclaration: Option<Redeclaration>,
 ) -> Result<Option<Refusal>, NoMemory>
     requires counted { AreCounted (map placed stmts.now) before.now }
-    requires names { AreAlike names.now (front_of (map placed stmts.now)).table }
+    requires names { FindAlike names.now (front_of (map placed stmts.now)).table }
     requires redeclaration { IsFirstRedeclaration (map placed stmts.now) redeclaration }
     ensures { IfOk result (λ o. (links : List Link) → IsRefused (twice_at (map placed stmts.now) links) (map placed stmts.now) o) }
 {

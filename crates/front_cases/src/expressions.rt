@@ -1,21 +1,8 @@
 //! The expressions of a text, as preconditions.
-use crate::texts::statements_of;
+use crate::texts::{nested, statements_of};
 use il_core::{BinOp, Form, RawExpr, Relation};
 use std::alloc::{AllocError, Global};
 use std::test::Fail;
-
-/// Parentheses around a name, so many that the depth is `depth`.
-fn nested(alloc: Global, depth: usize) -> Result<String, AllocError> {
-    let mut text = String::new(alloc);
-    for _ in 1..depth {
-        text.push_str("( ")?;
-    }
-    text.push_str("a")?;
-    for _ in 1..depth {
-        text.push_str(" )")?;
-    }
-    Ok(text)
-}
 
 fn symbol_text(op: BinOp) -> &'static str {
     match op {

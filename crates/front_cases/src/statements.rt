@@ -1,5 +1,5 @@
 //! The statements of a text.
-use crate::texts::statements_of;
+use crate::texts::{nested, statements_of};
 use il_core::{Bound, Form, Mode, TypeUse};
 use std::alloc::{AllocError, Global};
 use std::test::Fail;
@@ -81,7 +81,13 @@ fn put_form(out: &mut String, form: &Form) -> Result<(), AllocError> {
         Form::ExitWhen(_) => out.push_str("exit when"),
         Form::Label(_) => out.push_str("label"),
         Form::Goto(_) => out.push_str("goto"),
-        Form::Call(_, _) => out.push_str("call"),
+        Form::Call(_, arguments) => {
+            out.push_str("call")?;
+            for _ in arguments.as_slice() {
+                out.push_str(" argument")?;
+            }
+            Ok(())
+        }
         Form::Skip => out.push_str("skip"),
         Form::Assert(_) => out.push_str("assert"),
         Form::Return => out.push_str("return"),
@@ -126,7 +132,6 @@ fn answers_are_those_of_the_grammar(rt: HostRuntime) -> Result<(), Fail> {
         ),
         // Statements without a form.
         (";", "Syntax 0"),
-        ("TITLE t ; CALL q ;", "Syntax 10"),
         ("TITLE t ; TITLE ; FINISH ;", "Syntax 10"),
         ("TITLE t ; CONST a = b ;", "Syntax 10"),
         ("TITLE t ; CONST a = - - 1 ;", "Syntax 10"),
@@ -151,6 +156,8 @@ fn answers_are_those_of_the_grammar(rt: HostRuntime) -> Result<(), Fail> {
         ("PROC p ; TITLE t ;", "Order 0"),
         ("TITLE t ; TITLE t ;", "Order 10"),
         ("TITLE t ; FINISH ;", "Order 10"),
+        ("TITLE t ; CALL q ;", "Order 10"),
+        ("TITLE t ; PROC p ; CALL q ( a ) ;", "Order 19"),
         ("TITLE t ; PROC p ; CONST a = 0 ;", "Order 19"),
         ("TITLE t ; PROC p ; PRE TRUE ; SKIP ;", "Order 30"),
         ("TITLE t ; PROC p ; POST TRUE ; PRE TRUE ;", "Order 19"),
@@ -170,5 +177,89 @@ fn answers_are_those_of_the_grammar(rt: HostRuntime) -> Result<(), Fail> {
     for (text, want) in cases {
         assert!(rt; is_as(rt.alloc(), text, want)?, "at {text}");
     }
+    Ok(())
+}
+
+/// What the one statement of a body is read as, or the refusal of its text.
+fn reading_of_body(alloc: Global, words: &str) -> Result<String, Fail> {
+    let text = format!(in alloc;
+        "TITLE t ; PROC p ; PRE TRUE ; POST TRUE ; {words} ; ENDPROC ; FINISH ;"
+    )?;
+    let mut out = String::new(alloc);
+    match statements_of(alloc, text.as_bytes())? {
+        Ok(stmts) => match stmts.get(4) {
+            Some(stmt) => put_form(&mut out, &stmt.form)?,
+            None => return Err(Fail::from("no body")),
+        },
+        Err(refusal) => {
+            let (code, place) = (refusal.code, refusal.place);
+            return Ok(format!(in alloc; "{code:?} {place}")?);
+        }
+    }
+    Ok(out)
+}
+
+/// What is answered to a text whose body, which begins at byte 42, has no form.
+const NO_FORM: &str = "Syntax 42";
+
+fn is_body_as(alloc: Global, words: &str, want: &str) -> Result<bool, Fail> {
+    Ok(reading_of_body(alloc, words)?.as_str() == want)
+}
+
+#[test]
+fn a_call_has_two_forms(rt: HostRuntime) -> Result<(), Fail> {
+    let cases = [
+        ("CALL q", "call"),
+        ("CALL q ( a )", "call argument"),
+        ("CALL q(a,b+1)", "call argument argument"),
+        (
+            "CALL q ( ( a ) , NOT b AND TRUE , - 7 DIV 2 , OLD c )",
+            "call argument argument argument argument",
+        ),
+        // What a call calls is a name.
+        ("CALL", NO_FORM),
+        ("CALL 3", NO_FORM),
+        ("CALL ( a )", NO_FORM),
+        ("CALL SKIP", NO_FORM),
+        ("CALL := 1", NO_FORM),
+        ("CALL q r", NO_FORM),
+        ("q ( a )", NO_FORM),
+        // No pair of parentheses is empty, and each comma stands between two arguments.
+        ("CALL q ( )", NO_FORM),
+        ("CALL q ( a , )", NO_FORM),
+        ("CALL q ( , a )", NO_FORM),
+        ("CALL q ( a , , b )", NO_FORM),
+        ("CALL q ( a b )", NO_FORM),
+        ("CALL q ( ( a , b ) )", NO_FORM),
+        ("CALL q a", NO_FORM),
+        ("CALL q a , b", NO_FORM),
+        // The parentheses are a pair, and nothing stands behind them.
+        ("CALL q (", NO_FORM),
+        ("CALL q ( a", NO_FORM),
+        ("CALL q a )", NO_FORM),
+        ("CALL q ( a ) )", NO_FORM),
+        ("CALL q ( a ) b", NO_FORM),
+        ("CALL q ( a ) ( b )", NO_FORM),
+        // Each argument is an expression.
+        ("CALL q ( a < b < c )", NO_FORM),
+        ("CALL q ( a , b + )", NO_FORM),
+        ("CALL q ( a := b )", NO_FORM),
+    ];
+    for (text, want) in cases {
+        assert!(rt; is_body_as(rt.alloc(), text, want)?, "at {text}");
+    }
+    Ok(())
+}
+
+#[test]
+fn each_argument_has_a_depth_of_its_own(rt: HostRuntime) -> Result<(), Fail> {
+    let alloc = rt.alloc();
+    let (deepest, deeper) = (nested(alloc, 200)?, nested(alloc, 201)?);
+    let both = format!(in alloc; "CALL q ( {deepest} , {deepest} )")?;
+    let first = format!(in alloc; "CALL q ( {deeper} , a )")?;
+    let last = format!(in alloc; "CALL q ( a , {deeper} )")?;
+    assert!(rt; is_body_as(alloc, both.as_str(), "call argument argument")?);
+    assert!(rt; is_body_as(alloc, first.as_str(), NO_FORM)?);
+    assert!(rt; is_body_as(alloc, last.as_str(), NO_FORM)?);
     Ok(())
 }

@@ -1,4 +1,4 @@
-//! Texts as statements.
+//! Texts, and texts as statements.
 ghost use Rattle.std.specs.Prelude.{IfOk, map};
 ghost use Rattle.il_core.specs.Statement.{placed};
 ghost use Rattle.il_syntax.specs.Order.{IsInOrder};
@@ -6,8 +6,21 @@ ghost use Rattle.il_syntax.specs.Order.{IsInOrder};
 use il_core::{List, NoMemory, Refusal, Stmt, TextEnd};
 use il_lexer::lex;
 use il_syntax::parse;
-use std::alloc::Global;
+use std::alloc::{AllocError, Global};
 use std::test::Fail;
+
+/// Parentheses around a name, so many that the depth is `depth`.
+pub fn nested(alloc: Global, depth: usize) -> Result<String, AllocError> {
+    let mut text = String::new(alloc);
+    for _ in 1..depth {
+        text.push_str("( ")?;
+    }
+    text.push_str("a")?;
+    for _ in 1..depth {
+        text.push_str(" )")?;
+    }
+    Ok(text)
+}
 
 /// The statements of a text, or its refusal.
 pub fn statements_of(alloc: Global, text: &[u8]) -> Result<Result<List<Stmt>, Refusal>, Fail>

@@ -15,7 +15,7 @@ use Rattle.il_built.specs.CheckedText.{named, procedure_of, procedure_names, pro
 use Rattle.il_built.proofs.Given.{counts_next}
 
 -- the names of one statement more
-names_next : (stmts : List Placed) (i : ℕ) (x : Placed) → slice_get stmts i ≡ Some x → procedure_names (take (i + 1) stmts) ≡ procedure_names (take i stmts) ++ named x
+pub names_next : (stmts : List Placed) (i : ℕ) (x : Placed) → slice_get stmts i ≡ Some x → procedure_names (take (i + 1) stmts) ≡ procedure_names (take i stmts) ++ named x
 names_next stmts i x e =
     let h = slice_get_within stmts i x e in
     ap procedure_names (take_more stmts i x h) ∙ flat_map-append named (take i stmts) (get_or stmts i x ∷ [])
@@ -29,7 +29,7 @@ one_for_each c place (variable m name used) = sym (add-zero c.procedures)
 one_for_each c place x = sym (add-zero c.procedures)
 
 -- as many names stand in front of a statement as procedures
-names_counted : (stmts : List Placed) (d : Placed) (i : ℕ) → i ≤ length stmts → length (procedure_names (take i stmts)) ≡ (counts_at stmts i).procedures
+pub names_counted : (stmts : List Placed) (d : Placed) (i : ℕ) → i ≤ length stmts → length (procedure_names (take i stmts)) ≡ (counts_at stmts i).procedures
 names_counted stmts d zero h = refl
 names_counted stmts d (suc i) h =
     let inside : i < length stmts = omega arith in

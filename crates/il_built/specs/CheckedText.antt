@@ -63,8 +63,8 @@ target_of NoLine = 0
 target_of (Plain own) = 0
 target_of (Jump own target) = target
 
--- the line that a statement is, with the condition of the POST of its procedure and the line to which it may jump; a call, which
--- no text has yet, counts as a SKIP
+-- the line that a statement is, with the condition of the POST of its procedure and the line to which it may jump; a call
+-- counts as a SKIP, since what it stands for is more than one line
 abbrev pub instructions : Setting → Expression → ℕ → Statement → List Instruction
 instructions s condition target (pre e) = line.pre (built s e) ∷ []
 instructions s condition target (assign name e) = line.assign (assigned_place s name) (built s e) ∷ []

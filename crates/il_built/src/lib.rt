@@ -17,5 +17,6 @@ pub use checking::{check, profile_of, title_of};
 pub use expressions::{build_expression, place_of_name};
 pub use laws::procedures_are_checked;
 pub use lines::{line_of, target_at};
+pub use procedures::named;
 pub use spans::{Span, span_of};
 pub use variables::places_of;

@@ -33,8 +33,8 @@ fn build_procedure(
     Ok(CheckedProc::new(name, places, lines))
 }
 
-/// The name of the procedure that a statement begins.
-fn named(stmt: &Stmt) -> Option<Name>
+/// The name of the procedure that a statement begins. Constant time.
+pub fn named(stmt: &Stmt) -> Option<Name>
     ensures { MatchOption result (named (placed stmt.now) ≡ []) (λ name. (placed stmt.now).says ≡ procedure name) }
 {
     match &stmt.form {

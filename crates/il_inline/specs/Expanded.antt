@@ -42,3 +42,21 @@ pub record AreSame (e f : Expanded) : Type 0 where
 
 abbrev pub SameExpansion : Type 0
 SameExpansion = (t : WrittenText) (e f : Expanded) → IsExpanded t e → IsExpanded t f → AreSame e f
+
+-- an expanded text as a value: a text, and for each of its procedures the written line from which each line comes, and the lines of each call
+pub record WholeExpansion : Type 0 where
+  pub text : Text
+  pub origins : List (List Origin)
+  pub spans : List (List CallSpan)
+
+-- the expansion of a text with calls
+abbrev pub whole_expansion : WrittenText → WholeExpansion
+whole_expansion t = record {
+  text = expanded_text t;
+  origins = map (λ c. c.expanded.origins) (callees_of t.procs);
+  spans = map (λ c. c.expanded.spans) (callees_of t.procs);
+}
+
+-- what an expanded text holds
+abbrev pub whole_of : Expanded → WholeExpansion
+whole_of e = record { text = text_of e.text; origins = e.origins; spans = e.spans }

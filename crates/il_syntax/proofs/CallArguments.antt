@@ -17,10 +17,12 @@ use Rattle.il_syntax.specs.FormReading.{is_comma, is_left, is_right}
 use Rattle.il_core.specs.declared.statement.RawExpr.{RawExpr}
 use Rattle.il_syntax.specs.declared.expression.ExpressionEnd.{ExpressionEnd}
 use Rattle.il_syntax.specs.declared.expression.ExpressionEnd.TheVariants as end
-use Rattle.il_syntax.specs.Arguments.{AreListed, AreArguments, HasNoComma, argument_len, IsCut, ListedGive, ArgumentsGive}
+use Rattle.il_syntax.specs.Arguments.{AreListed, AreArguments, ListedGive, ArgumentsGive}
+use Rattle.il_syntax.specs.ArgumentReading.{HasNoComma, argument_len, IsCut}
+use Rattle.il_syntax.proofs.ExpressionExact.{one_tree}
 use Rattle.il_syntax.proofs.ReadIsSpelt.{comma_token, left_token, right_token}
 
-no_comma_append : (a b : List TokenKind) → HasNoComma a → HasNoComma b → HasNoComma (a ++ b)
+pub no_comma_append : (a b : List TokenKind) → HasNoComma a → HasNoComma b → HasNoComma (a ++ b)
 no_comma_append [] b h k = k
 no_comma_append (t ∷ a) b h k = (h.0, no_comma_append a b h.1 k)
 
@@ -133,14 +135,14 @@ fails_last tokens read rest so free none trees l =
     none f.0 f.2
 
 -- what stands in parentheses behind the name that is called
-inside_only : (tokens inner : List TokenKind) → tokens ≡ Symbol s.LeftParen ∷ (inner ++ Symbol s.RightParen ∷ []) → (trees : List Tree) → AreArguments tokens trees → AreListed inner trees
+pub inside_only : (tokens inner : List TokenKind) → tokens ≡ Symbol s.LeftParen ∷ (inner ++ Symbol s.RightParen ∷ []) → (trees : List Tree) → AreArguments tokens trees → AreListed inner trees
 inside_only tokens inner cut [] l = let e : [] ≡ Symbol s.LeftParen ∷ (inner ++ Symbol s.RightParen ∷ []) = sym l ∙ cut in absurd (cc)
 inside_only tokens inner cut (t ∷ ts) l =
     let e : Symbol s.LeftParen ∷ (l.0 ++ Symbol s.RightParen ∷ []) ≡ Symbol s.LeftParen ∷ (inner ++ Symbol s.RightParen ∷ []) = sym l.1 ∙ cut in
     let f : l.0 ++ Symbol s.RightParen ∷ [] ≡ inner ++ Symbol s.RightParen ∷ [] = cc in
     subst (λ us. AreListed us (t ∷ ts)) (append_cancel_right l.0 inner (Symbol s.RightParen ∷ []) f) l.2
 
-inside_are : (tokens inner : List TokenKind) → tokens ≡ Symbol s.LeftParen ∷ (inner ++ Symbol s.RightParen ∷ []) → (trees : List Tree) → AreListed inner trees → AreArguments tokens trees
+pub inside_are : (tokens inner : List TokenKind) → tokens ≡ Symbol s.LeftParen ∷ (inner ++ Symbol s.RightParen ∷ []) → (trees : List Tree) → AreListed inner trees → AreArguments tokens trees
 inside_are tokens inner cut [] l = absurd l
 inside_are tokens inner cut (t ∷ ts) l = (inner, cut, l)
 
@@ -149,6 +151,22 @@ pub inside : (tokens inner : List TokenKind) (result : Result (List RawExpr) Exp
 inside tokens inner (Ok es) cut h = (inside_are tokens inner cut (map tree_of es) h.0, λ others l. h.1 others (inside_only tokens inner cut others l))
 inside tokens inner (Err end.NoForm) cut h = λ trees l. h trees (inside_only tokens inner cut trees l)
 inside tokens inner (Err end.NoMemory) cut h = tt
+
+-- no tokens list two lists
+one_listed : (tokens : List TokenKind) (a b : List Tree) → AreListed tokens a → AreListed tokens b → a ≡ b
+one_listed tokens [] b f g = absurd f
+one_listed tokens (t ∷ ts) b (inl f) g =
+    let h = listed_last tokens (expression_no_comma f.0) b g in
+    ap (λ us. t ∷ us) f.1 ∙ ap (λ u. u ∷ []) (one_tree f.0 h.2) ∙ sym h.1
+one_listed tokens (t ∷ ts) b (inr f) g =
+    let h = listed_first tokens f.0 f.1 f.2 (expression_no_comma f.3) b g in
+    ap (λ us. t ∷ us) (one_listed f.1 ts h.1 f.4 h.4) ∙ ap (λ u. u ∷ h.1) (one_tree f.3 h.3) ∙ sym h.2
+
+-- no tokens are two lists of arguments
+pub one_arguments : (tokens : List TokenKind) (a b : List Tree) → AreArguments tokens a → AreArguments tokens b → a ≡ b
+one_arguments tokens [] [] f g = refl
+one_arguments tokens [] (u ∷ us) f g = let e : [] ≡ Symbol s.LeftParen ∷ (g.0 ++ Symbol s.RightParen ∷ []) = sym f ∙ g.1 in absurd (cc)
+one_arguments tokens (t ∷ ts) b f g = one_listed f.0 (t ∷ ts) b f.2 (inside_only tokens f.0 f.1 b g)
 
 -- the tokens before the first comma
 len_with : (b : Bool) (n len : ℕ) → n ≤ len → (if b then 0 else suc n) ≤ suc len

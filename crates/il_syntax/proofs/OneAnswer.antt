@@ -15,9 +15,10 @@ use Rattle.il_syntax.specs.declared.order.Stage.{Stage}
 use Rattle.il_syntax.specs.declared.order.Stage.TheVariants as at
 use Rattle.il_syntax.specs.Expression.{kinds}
 use Rattle.il_syntax.specs.Form.{Derives}
-use Rattle.il_syntax.specs.FormReading.{Reading, nothing, whole, around, reading}
+use Rattle.il_syntax.specs.FormReading.{Reading, nothing, whole, around, around_all, reading}
 use Rattle.il_syntax.specs.Order.{run, next, part_of, IsInOrder, StopsAt, BreaksAt}
 use Rattle.il_syntax.specs.Parse.{pieces, IsStatement, AreStatements, FailsAt, OneParse}
+use Rattle.il_syntax.proofs.CallArguments.{one_arguments}
 use Rattle.il_syntax.proofs.ExpressionExact.{one_tree}
 use Rattle.il_syntax.proofs.SpeltIsRead.{Agrees, spelt_reads}
 
@@ -26,6 +27,7 @@ one_reading : (r : Reading) (a b : Statement) → Agrees a r → Agrees b r → 
 one_reading nothing a b f g = absurd f
 one_reading (whole t) a b f g = f ∙ sym g
 one_reading (around make tokens) a b f g = f.2 ∙ ap make (one_tree f.1 g.1) ∙ sym g.2
+one_reading (around_all make tokens) a b f g = f.2 ∙ ap make (one_arguments tokens f.0 g.0 f.1 g.1) ∙ sym g.2
 
 -- no tokens are two statements
 one_form : (tokens : List TokenKind) (a b : Statement) → Derives a tokens → Derives b tokens → a ≡ b

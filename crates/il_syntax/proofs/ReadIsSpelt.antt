@@ -14,7 +14,7 @@ use Rattle.il_core.specs.declared.token.Symbol.TheVariants as s
 use Rattle.il_core.specs.declared.token.TokenKind.{TokenKind}
 use Rattle.il_core.specs.declared.token.TokenKind.TheVariants.{Key, Ident, Number, Symbol}
 use Rattle.il_syntax.specs.Form.{IsValue, IsBound, IsRange, IsType, listed, mode_word, Spells}
-use Rattle.il_syntax.specs.FormReading.{◌>>=◌, nothing, around, reading, keyed, reading_of, named, alone, exit_of, assignment, positive, negative, name_in, number_in, is_equal, is_colon, is_becomes, is_dots, is_minus, is_comma, is_left, is_right, is_bool, is_wrap, is_when, is_end, behind, name_at, name_before, at_end, number_at, value_at, value_of, name_of, bound_of_name, bound_of_value, or_else, bound_at, range_of, wrap_of, range_use, word_type, type_of, names_of, range_type_of, wrap_type_of, definition, constant_of, type_definition, variable_of}
+use Rattle.il_syntax.specs.FormReading.{◌>>=◌, nothing, around, call_with, reading, keyed, reading_of, named, alone, exit_of, assignment, positive, negative, name_in, number_in, is_equal, is_colon, is_becomes, is_dots, is_minus, is_comma, is_left, is_right, is_bool, is_wrap, is_when, is_end, behind, name_at, name_before, at_end, number_at, value_at, value_of, name_of, bound_of_name, bound_of_value, or_else, bound_at, range_of, wrap_of, range_use, word_type, type_of, names_of, range_type_of, wrap_type_of, definition, constant_of, type_definition, variable_of}
 use Rattle.il_syntax.proofs.SpeltIsRead.{Agrees}
 use Rattle.std.proofs.lemmas.Bool.{ltb-true, leb-true}
 
@@ -373,6 +373,10 @@ exit_spelt : (ts : List TokenKind) (t : Statement) → Agrees t (exit_of ts) →
 exit_spelt [] t h = rw h refl
 exit_spelt (first ∷ rest) t h = exit_by first rest t (is_when first) refl h
 
+call_by : (ts : List TokenKind) (o : Option (List ℕ × List TokenKind)) (t : Statement) → name_at ts ≡ o → Agrees t (call_with o) → Spells t (Key k.KwCall ∷ ts)
+call_by ts None t e h = absurd h
+call_by ts (Some x) t e h = rw h.2 (x.1, ap (λ (y : List TokenKind). Key k.KwCall ∷ y) (name_at_spelt ts x e), h.1)
+
 assignment_by : (name : List ℕ) (first : TokenKind) (rest : List TokenKind) (t : Statement) (b : Bool) → is_becomes first ≡ b → Agrees t (if b then around (assign name) rest else nothing)
     → Spells t (Ident name ∷ first ∷ rest)
 assignment_by name first rest t true e h = rw h.2 (rest, ap (λ (x : TokenKind). Ident name ∷ x ∷ rest) (becomes_token first e), h.1)
@@ -401,6 +405,7 @@ keyed_spelt k.KwEndloop ts t h = let g = alone_spelt k.KwEndloop end_loop ts t h
 keyed_spelt k.KwExit ts t h = exit_spelt ts t h
 keyed_spelt k.KwLabel ts t h = let g = named_spelt k.KwLabel label ts t h in subst (λ (u : Statement). Spells u (Key k.KwLabel ∷ ts)) g.1 g.2
 keyed_spelt k.KwGoto ts t h = let g = named_spelt k.KwGoto goto ts t h in subst (λ (u : Statement). Spells u (Key k.KwGoto ∷ ts)) g.1 g.2
+keyed_spelt k.KwCall ts t h = call_by ts (name_at ts) t refl h
 keyed_spelt k.KwSkip ts t h = let g = alone_spelt k.KwSkip skip ts t h in subst (λ (u : Statement). Spells u (Key k.KwSkip ∷ ts)) g.0 g.1
 keyed_spelt k.KwAssert ts t h = rw h.2 (ts, refl, h.1)
 keyed_spelt k.KwReturn ts t h = let g = alone_spelt k.KwReturn return ts t h in subst (λ (u : Statement). Spells u (Key k.KwReturn ∷ ts)) g.0 g.1

@@ -14,14 +14,16 @@ use Rattle.il_core.specs.declared.token.Symbol.TheVariants as s
 use Rattle.il_core.specs.declared.token.TokenKind.{TokenKind}
 use Rattle.il_core.specs.declared.token.TokenKind.TheVariants.{Key, Symbol}
 use Rattle.il_syntax.specs.Expression.{IsExpression}
+use Rattle.il_syntax.specs.Arguments.{AreArguments}
 use Rattle.il_syntax.specs.Form.{IsValue, IsBound, IsRange, IsType, listed, Spells}
-use Rattle.il_syntax.specs.FormReading.{Reading, nothing, whole, around, reading, positive, negative, value_of, bound_at, range_of, range_use, range_type_of, type_of, names_of, definition}
+use Rattle.il_syntax.specs.FormReading.{Reading, nothing, whole, around, around_all, reading, positive, negative, value_of, bound_at, range_of, range_use, range_type_of, type_of, names_of, definition}
 
 -- the statement is what is read
 abbrev pub Agrees : Statement → Reading → Type 0
 Agrees s nothing = ⊥
 Agrees s (whole t) = s ≡ t
 Agrees s (around make tokens) = (tree : Tree) × IsExpression tokens tree × (s ≡ make tree)
+Agrees s (around_all make tokens) = (trees : List Tree) × AreArguments tokens trees × (s ≡ make trees)
 
 positive_read : (n : ℕ) → n < 2 ^ 63 → positive n ≡ Some (pos n)
 positive_read n h = search rules
@@ -104,7 +106,7 @@ spelt_reads exit tokens e = rw e refl
 spelt_reads (exit_when tree) tokens (ts, e, h) = rw e (tree, h, refl)
 spelt_reads (label name) tokens e = rw e refl
 spelt_reads (goto name) tokens e = rw e refl
-spelt_reads (call _ _) tokens e = absurd e
+spelt_reads (call name trees) tokens (ts, e, h) = rw e (trees, h, refl)
 spelt_reads skip tokens e = rw e refl
 spelt_reads (assert tree) tokens (ts, e, h) = rw e (tree, h, refl)
 spelt_reads return tokens e = rw e refl

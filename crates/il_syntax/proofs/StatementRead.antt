@@ -11,7 +11,7 @@ use Rattle.il_core.specs.declared.token.TokenKind.TheVariants.{Symbol}
 use Rattle.il_syntax.specs.declared.expression.ExpressionEnd.{ExpressionEnd}
 use Rattle.il_syntax.specs.declared.expression.ExpressionEnd.TheVariants.{NoForm, NoMemory}
 use Rattle.il_syntax.specs.Expression.{kinds}
-use Rattle.il_syntax.specs.FormReading.{Reading, nothing, whole, around, reading, Answers}
+use Rattle.il_syntax.specs.FormReading.{Reading, nothing, whole, around, around_all, reading, Answers}
 use Rattle.il_syntax.specs.Parse.{is_semicolon}
 use Rattle.il_syntax.specs.StatementReading.{StatementIs}
 use Rattle.il_syntax.proofs.SpeltIsRead.{Agrees, spelt_reads}
@@ -26,12 +26,14 @@ form_agrees : (r : Reading) (form : Form) → Answers r (Ok form) → Agrees (st
 form_agrees nothing form h = h
 form_agrees (whole t) form h = h
 form_agrees (around make tokens) form h = h
+form_agrees (around_all make tokens) form h = h
 
 -- where no form is read, no statement agrees with what is read
 none_agrees : (r : Reading) (t : Statement) → Answers r (Err NoForm) → Agrees t r → ⊥
 none_agrees nothing t h g = g
 none_agrees (whole u) t h g = h
 none_agrees (around make tokens) t h g = h g.0 g.1
+none_agrees (around_all make tokens) t h g = h g.0 g.1
 
 read_statement : (body : List TokenKind) (result : Result Form ExpressionEnd) → Answers (reading body) result → StatementIs (body ++ Symbol s.Semicolon ∷ []) result
 read_statement body (Ok form) h = record { body = body; spelt = read_spelt (statement_of form) body (form_agrees (reading body) form h); ended = refl }

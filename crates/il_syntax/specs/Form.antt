@@ -14,6 +14,7 @@ use Rattle.il_core.specs.declared.token.Symbol.TheVariants as s
 use Rattle.il_core.specs.declared.token.TokenKind.{TokenKind}
 use Rattle.il_core.specs.declared.token.TokenKind.TheVariants.{Key, Ident, Number, Symbol}
 use Rattle.il_syntax.specs.Expression.{IsExpression}
+use Rattle.il_syntax.specs.Arguments.{AreArguments}
 
 -- a value is a number, or `-` and a number, within 64 bits
 abbrev pub IsValue : List TokenKind → ℤ → Type 0
@@ -49,7 +50,7 @@ mode_word mode.InOut = k.KwInout
 mode_word mode.Output = k.KwOut
 mode_word mode.Local = k.KwLocal
 
--- these tokens, without the `;`, spell the statement; none spell a call yet
+-- these tokens, without the `;`, spell the statement
 abbrev pub Spells : Statement → List TokenKind → Type 0
 Spells (title name) tokens = tokens ≡ Key k.KwTitle ∷ Ident name ∷ []
 Spells (constant_is name value) tokens = (v : List TokenKind) × (tokens ≡ Key k.KwConst ∷ Ident name ∷ Symbol s.Equal ∷ v) × IsValue v value
@@ -70,7 +71,7 @@ Spells exit tokens = tokens ≡ Key k.KwExit ∷ []
 Spells (exit_when tree) tokens = (e : List TokenKind) × (tokens ≡ Key k.KwExit ∷ Key k.KwWhen ∷ e) × IsExpression e tree
 Spells (label name) tokens = tokens ≡ Key k.KwLabel ∷ Ident name ∷ []
 Spells (goto name) tokens = tokens ≡ Key k.KwGoto ∷ Ident name ∷ []
-Spells (call _ _) tokens = ⊥
+Spells (call name trees) tokens = (a : List TokenKind) × (tokens ≡ Key k.KwCall ∷ Ident name ∷ a) × AreArguments a trees
 Spells skip tokens = tokens ≡ Key k.KwSkip ∷ []
 Spells (assert tree) tokens = (e : List TokenKind) × (tokens ≡ Key k.KwAssert ∷ e) × IsExpression e tree
 Spells return tokens = tokens ≡ Key k.KwReturn ∷ []

@@ -1,7 +1,7 @@
 -- The reading of the tokens of one statement, without its `;`, from left to right.
 use Rattle.std.specs.Prelude.{◌≡◌, ℕ, Bool, true, false, nat_lt, nat_le, ◌^◌, ◌&&◌, ℤ, pos, neg_ℤ, List, [], ◌∷◌, Option, Some, None, Result, Ok, Err, if◌then◌else◌}
 use Rattle.std.specs.Option.{option_map}
-use Rattle.il_core.specs.Statement.{Statement, statement_of, title, constant_is, range_type, wrap_type, enum_type, procedure, variable, pre, post, assign, if_true, otherwise, end_if, loop, end_loop, exit, exit_when, label, goto, skip, assert, return, end_procedure, finish}
+use Rattle.il_core.specs.Statement.{Statement, statement_of, title, constant_is, range_type, wrap_type, enum_type, procedure, variable, pre, post, assign, if_true, otherwise, end_if, loop, end_loop, exit, exit_when, label, goto, call, skip, assert, return, end_procedure, finish}
 use Rattle.il_core.specs.Tree.{Tree}
 use Rattle.il_core.specs.declared.statement.Bound.{Bound}
 use Rattle.il_core.specs.declared.statement.Bound.TheVariants as bound
@@ -18,6 +18,7 @@ use Rattle.il_core.specs.declared.token.TokenKind.TheVariants as kind
 use Rattle.il_syntax.specs.declared.expression.ExpressionEnd.{ExpressionEnd}
 use Rattle.il_syntax.specs.declared.expression.ExpressionEnd.TheVariants as end
 use Rattle.il_syntax.specs.Expression.{IsExpression, ExpressionIs}
+use Rattle.il_syntax.specs.Arguments.{AreArguments, ArgumentsGive}
 
 infixl 10 ◌>>=◌
 abbrev pub ◌>>=◌ : {A B : Type 0} → Option A → (A → Option B) → Option B
@@ -159,11 +160,12 @@ names_of (word ∷ []) = None
 names_of (word ∷ mark ∷ rest) = name_in word >>= λ name. if is_comma mark then option_map (λ names. name ∷ names) (names_of rest)
     else (if is_right mark && is_end rest then Some (name ∷ []) else None)
 
--- what is read: nothing, a statement, or a statement around an expression
+-- what is read: nothing, a statement, a statement around an expression, or one around the arguments of a call
 pub data Reading : Type 0 where
   nothing : Reading
   whole : Statement → Reading
   around : (Tree → Statement) → List TokenKind → Reading
+  around_all : (List Tree → Statement) → List TokenKind → Reading
 
 abbrev pub reading_of : Option Statement → Reading
 reading_of None = nothing
@@ -204,6 +206,11 @@ abbrev pub assignment : List ℕ → List TokenKind → Reading
 assignment name [] = nothing
 assignment name (first ∷ rest) = if is_becomes first then around (assign name) rest else nothing
 
+-- the name that is called, and the arguments behind it
+abbrev pub call_with : Option (List ℕ × List TokenKind) → Reading
+call_with None = nothing
+call_with (Some x) = around_all (call x.0) x.1
+
 -- what stands behind a first keyword
 abbrev pub keyed : Keyword → List TokenKind → Reading
 keyed k.KwTitle tokens = named title tokens
@@ -224,6 +231,7 @@ keyed k.KwEndloop tokens = alone end_loop tokens
 keyed k.KwExit tokens = exit_of tokens
 keyed k.KwLabel tokens = named label tokens
 keyed k.KwGoto tokens = named goto tokens
+keyed k.KwCall tokens = call_with (name_at tokens)
 keyed k.KwSkip tokens = alone skip tokens
 keyed k.KwAssert tokens = around assert tokens
 keyed k.KwReturn tokens = alone return tokens
@@ -246,3 +254,5 @@ Answers (whole statement) (Err end.NoForm) = ⊥
 Answers (whole statement) (Err end.NoMemory) = Unit {0}
 Answers (around make tokens) (Ok form) = (tree : Tree) × IsExpression tokens tree × (statement_of form ≡ make tree)
 Answers (around make tokens) (Err e) = ExpressionIs tokens (Err e)
+Answers (around_all make tokens) (Ok form) = (trees : List Tree) × AreArguments tokens trees × (statement_of form ≡ make trees)
+Answers (around_all make tokens) (Err e) = ArgumentsGive tokens (Err e)

@@ -1,8 +1,9 @@
 pub mod Expression
+pub mod Arguments
 pub mod Form
 pub mod Order
 pub mod Parse
 pub mod ExpressionReading
 pub mod FormReading
+pub mod ArgumentReading
 pub mod StatementReading
-pub mod Arguments

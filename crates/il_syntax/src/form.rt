@@ -3,11 +3,12 @@ ghost use Rattle.il_core.specs.Statement.{statement_of};
 ghost use Rattle.il_syntax.specs.Expression.{kinds};
 ghost use Rattle.std.specs.Option.{ok_or};
 ghost use Rattle.il_syntax.specs.declared.expression.ExpressionEnd.TheVariants as end;
-ghost use Rattle.il_syntax.specs.FormReading.{alone, name_of, keyed, exit_of, assignment, reading, Answers};
+ghost use Rattle.il_syntax.specs.FormReading.{alone, name_at, name_of, keyed, exit_of, assignment, call_with, reading, Answers};
 
 use crate::expression::{ExpressionEnd, expression};
+use crate::form_call::arguments_of_call;
 use crate::form_declaration::{constant, type_definition, variable};
-use crate::form_token::{is_becomes, is_end, is_when, name_of};
+use crate::form_token::{is_becomes, is_end, is_when, name_at, name_of};
 use il_core::{Form, Keyword, Mode, Name, Token, TokenKind};
 use std::alloc::Global;
 
@@ -37,6 +38,16 @@ fn assignment(alloc: Global, name: Name, tokens: &[Token]) -> Result<Form, Expre
     } else {
         Err(ExpressionEnd::NoForm)
     }
+}
+
+/// The call of the name at the front, with the arguments behind it.
+fn call(alloc: Global, tokens: &[Token]) -> Result<Form, ExpressionEnd>
+    ensures { Answers (call_with (name_at (kinds tokens.now))) result }
+{
+    let Some((name, rest)) = name_at(tokens) else {
+        return Err(ExpressionEnd::NoForm);
+    };
+    Ok(Form::Call(name, arguments_of_call(alloc, rest)?))
 }
 
 /// The form where there is no further token.
@@ -83,6 +94,7 @@ fn keyed(alloc: Global, keyword: Keyword, tokens: &[Token]) -> Result<Form, Expr
         Keyword::KwExit => exit(alloc, tokens),
         Keyword::KwLabel => Ok(Form::Label(lone_name(tokens)?)),
         Keyword::KwGoto => Ok(Form::Goto(lone_name(tokens)?)),
+        Keyword::KwCall => call(alloc, tokens),
         Keyword::KwSkip => alone(Form::Skip, tokens),
         Keyword::KwAssert => Ok(Form::Assert(expression(alloc, tokens)?)),
         Keyword::KwReturn => alone(Form::Return, tokens),

@@ -1,6 +1,7 @@
 ghost use Rattle.std.specs.Prelude.{◌≡◌, ◌<◌, length, IfSome};
 ghost use Rattle.il_syntax.specs.Expression.{kinds};
-ghost use Rattle.il_syntax.specs.Arguments.{argument_len, IsCut, ListedGive, ArgumentsGive};
+ghost use Rattle.il_syntax.specs.Arguments.{ListedGive, ArgumentsGive};
+ghost use Rattle.il_syntax.specs.ArgumentReading.{argument_len, IsCut};
 
 use crate::expression::{ExpressionEnd, expression};
 use crate::form_token::{is_comma, is_left, is_right};
@@ -53,7 +54,10 @@ fn listed(alloc: Global, tokens: &[Token]) -> Result<List<RawExpr>, ExpressionEn
 /// The arguments that stand behind the name in a CALL, in all of the tokens: none where there are no tokens, else at least one, in
 /// parentheses with commas between them, each an expression with a depth of at most 200 of its own. `NoForm` comes exactly where
 /// the tokens are no arguments, `NoMemory` where memory runs out. Linear in the tokens.
-pub fn arguments_of_call(alloc: Global, tokens: &[Token]) -> Result<List<RawExpr>, ExpressionEnd>
+pub(crate) fn arguments_of_call(
+    alloc: Global,
+    tokens: &[Token],
+) -> Result<List<RawExpr>, ExpressionEnd>
     ensures { ArgumentsGive (kinds tokens.now) result }
 {
     let Some((first, behind)) = tokens.split_first() else {

@@ -15,6 +15,5 @@ mod parsing;
 mod statement;
 
 pub use expression::ExpressionEnd;
-pub use form_call::arguments_of_call;
 pub use order::{Part, Stage};
 pub use parsing::{one_parse, parse};

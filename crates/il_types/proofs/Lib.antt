@@ -3,3 +3,4 @@ pub mod Passing
 pub mod Counting
 pub mod Saturated
 pub mod OneAnswer
+pub mod FirstNames

@@ -10,3 +10,4 @@ pub mod Counted
 pub mod Built
 pub mod Narrow
 pub mod Rules
+pub mod Redeclaration

@@ -100,3 +100,11 @@ said stmts spot = option_map (λ x. (spot, x.says)) (slice_get stmts spot.0)
 -- the declaration of a name that is in force, with the statement that makes it
 abbrev pub declaration : Setting → List ℕ → Option (Spot × Statement)
 declaration s name = option_and_then (said s.stmts) (in_force s name)
+
+-- two tables in which each name is found alike
+abbrev pub FindAlike : Table → Table → Type 0
+FindAlike a b = (k : Key) → lookup (same_key k) a ≡ lookup (same_key k) b
+
+-- a table of first declarations with those of these entries: it finds each name as any table does that finds alike, with the entries behind it
+abbrev pub GoesOn : Table → Table → Table → Type 0
+GoesOn before after es = (table : Table) → FindAlike before table → FindAlike after (table ++ es)

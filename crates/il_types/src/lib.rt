@@ -22,7 +22,7 @@ pub use checking::{first_refusal, one_answer};
 pub use counts::{Counts, all_counts, counts_behind, is_line, no_counts, too_many};
 pub use kind::Kind;
 pub use modes::{Part, keeps_modes, may_assign, mode_of};
-pub use names::{Names, declare_all};
+pub use names::{FirstDeclarations, Names, Redeclaration, declare_all, first_declared};
 pub use narrow::static_bounds;
 pub use range::{Range, counts_before, is_flag, range_of_use};
 pub use rules::{Found, Rule, fault, naming, refusal_of, unless};

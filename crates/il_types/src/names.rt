@@ -2,7 +2,8 @@ ghost use Rattle.std.specs.Prelude.{◌≡◌, ◌<◌, ◌++◌, ◌∷◌, [],
 ghost use Rattle.std.specs.Map.{lookup};
 ghost use Rattle.std.specs.Option.{option_or};
 ghost use Rattle.il_core.specs.Statement.{statement_of, placed};
-ghost use Rattle.il_types.specs.Names.{same_key, is_taken, earlier, of_procedure, first_taken, entries_from, entries, IsDeclared};
+ghost use Rattle.il_types.specs.Names.{same_key, is_taken, earlier, of_procedure, first_taken, entries_from, entries, front_of, IsDeclared, FindAlike, GoesOn};
+ghost use Rattle.il_types.specs.Redeclaration.{IsFirstRedeclaration};
 ghost use Rattle.il_types.specs.Rules.{Declares};
 
 use crate::counts::{counts_behind, no_counts};
@@ -23,6 +24,24 @@ impl Model for Names {
     ghost Value = { Table };
 
     ghost view = { λ n. n.table.entries };
+}
+
+/// A statement that redeclares a name: one that is taken.
+#[derive(Clone, Copy, Drop)]
+pub struct Redeclaration {
+    /// The number of the statement, counted from 0.
+    pub at: usize,
+    /// The first of its names that is taken.
+    pub name: Name,
+}
+
+/// Declarations of a text, with its first redeclaration.
+#[derive(Drop)]
+pub struct FirstDeclarations {
+    /// Under each name its first declaration.
+    pub names: Names,
+    /// The first statement that redeclares a name, where there is one.
+    pub redeclaration: Option<Redeclaration>,
 }
 
 impl Names {
@@ -160,12 +179,70 @@ impl Names {
             _ => Ok(None),
         }
     }
+
+    /// Puts a declaration of a name behind the others, where there is none of that name in its scope.
+    fn declare_first(
+        &mut self,
+        scope: usize,
+        name: &Name,
+        at: usize,
+        index: usize,
+    ) -> Result<(), NoMemory>
+        ensures { IfOk result (λ _. GoesOn self.old self.new (((scope, name.now), (at, index)) ∷ [])) }
+    {
+        if self.get(scope, name).is_none() {
+            self.table.insert((scope, *name), (at, index))?;
+        }
+        Ok(())
+    }
+
+    /// The same for the values of an enumeration.
+    fn declare_first_values(&mut self, values: &[Name], at: usize) -> Result<(), NoMemory>
+        ensures { IfOk result (λ _. GoesOn self.old self.new (entries_from 0 at 1 values.now)) }
+    {
+        for (k, value) in values.iter().enumerate() {
+            self.declare_first(0, value, at, k + 1)?;
+        }
+        Ok(())
+    }
+
+    /// The same for an enumeration and its values.
+    fn declare_first_enumeration(
+        &mut self,
+        name: &Name,
+        values: &[Name],
+        at: usize,
+    ) -> Result<(), NoMemory>
+        ensures { IfOk result (λ _. GoesOn self.old self.new (entries_from 0 at 0 (name.now ∷ values.now))) }
+    {
+        self.declare_first(0, name, at, 0)?;
+        self.declare_first_values(values, at)
+    }
+
+    /// The same for the names of statement `at`, in procedure `owner`.
+    fn declare_first_of(&mut self, owner: usize, at: usize, form: &Form) -> Result<(), NoMemory>
+        ensures { IfOk result (λ _. GoesOn self.old self.new (entries owner at (statement_of form.now))) }
+    {
+        match form {
+            Form::Const(name, _) => self.declare_first(0, name, at, 0),
+            Form::RangeType(name, _, _) => self.declare_first(0, name, at, 0),
+            Form::WrapType(name, _, _) => self.declare_first(0, name, at, 0),
+            Form::EnumType(name, values) => self.declare_first_enumeration(
+                name,
+                values.as_slice(),
+                at,
+            ),
+            Form::Proc(name) => self.declare_first(0, name, at, 0),
+            Form::Variable(_, name, _) => self.declare_first(owner, name, at, 0),
+            _ => Ok(()),
+        }
+    }
 }
 
-/// The declarations of a text, or the first statement that declares a name that is taken (`Code::Twice`, with the name). The time
-/// is linear in the text but for the look-ups by name.
-pub fn declare_all(alloc: Global, stmts: &[Stmt]) -> Result<Names, TextEnd>
-    ensures { Declares (map placed stmts.now) result }
+/// The declarations of a text up to its first redeclaration: all of them where there is none.
+fn declare_until(alloc: Global, stmts: &[Stmt]) -> Result<FirstDeclarations, NoMemory>
+    ensures first { IfOk result (λ d. IsFirstRedeclaration (map placed stmts.now) d.redeclaration) }
+    ensures whole { IfOk result (λ d. d.redeclaration ≡ None → d.names ≡ (front_of (map placed stmts.now)).table) }
 {
     let mut names = Names::new(alloc);
     let mut counts = no_counts();
@@ -174,14 +251,63 @@ pub fn declare_all(alloc: Global, stmts: &[Stmt]) -> Result<Names, TextEnd>
         match taken {
             None => {}
             Some(name) => {
-                return Err(TextEnd::Refused(Refusal {
-                    code: Code::Twice,
-                    place: stmt.place,
-                    name: Some(name),
-                }));
+                return Ok(FirstDeclarations {
+                    names,
+                    redeclaration: Some(Redeclaration { at: i, name }),
+                });
             }
         }
         counts = counts_behind(counts, i, &stmt.form);
     }
+    Ok(FirstDeclarations {
+        names,
+        redeclaration: None,
+    })
+}
+
+/// The first declaration of each name of a text in its scope.
+fn first_names(alloc: Global, stmts: &[Stmt]) -> Result<Names, NoMemory>
+    ensures { IfOk result (λ names. FindAlike names (front_of (map placed stmts.now)).table) }
+{
+    let mut names = Names::new(alloc);
+    let mut counts = no_counts();
+    for (i, stmt) in stmts.iter().enumerate() {
+        names.declare_first_of(counts.procedures, i, &stmt.form)?;
+        counts = counts_behind(counts, i, &stmt.form);
+    }
     Ok(names)
+}
+
+/// The first declaration of each name of a text in its scope, with the first redeclaration of the text: each name is found as among all
+/// declarations, and where nothing is declared again these are all of them. The error comes where memory runs out. The time is linear in
+/// the text but for the look-ups by name.
+pub fn first_declared(alloc: Global, stmts: &[Stmt]) -> Result<FirstDeclarations, NoMemory>
+    ensures alike { IfOk result (λ d. FindAlike d.names (front_of (map placed stmts.now)).table) }
+    ensures first { IfOk result (λ d. IsFirstRedeclaration (map placed stmts.now) d.redeclaration) }
+    ensures whole { IfOk result (λ d. d.redeclaration ≡ None → d.names ≡ (front_of (map placed stmts.now)).table) }
+{
+    let declared = declare_until(alloc, stmts)?;
+    match declared.redeclaration {
+        None => Ok(declared),
+        Some(redeclaration) => Ok(FirstDeclarations {
+            names: first_names(alloc, stmts)?,
+            redeclaration: Some(redeclaration),
+        }),
+    }
+}
+
+/// The declarations of a text, or the first statement that declares a name that is taken (`Code::Twice`, with the name). The time
+/// is linear in the text but for the look-ups by name.
+pub fn declare_all(alloc: Global, stmts: &[Stmt]) -> Result<Names, TextEnd>
+    ensures { Declares (map placed stmts.now) result }
+{
+    let declared = declare_until(alloc, stmts)?;
+    match declared.redeclaration {
+        None => Ok(declared.names),
+        Some(redeclaration) => Err(TextEnd::Refused(Refusal {
+            code: Code::Twice,
+            place: stmts[redeclaration.at].place,
+            name: Some(redeclaration.name),
+        })),
+    }
 }

@@ -12,6 +12,7 @@ use Rattle.il_core.specs.Procedure.{Procedure}
 use Rattle.il_core.specs.Run.{Ends, HasNoBadRun}
 use Rattle.il_core.specs.Text.{TextProcedure, Text}
 use Rattle.il_core.specs.declared.certificate.NamedCert.{NamedCert}
+use Rattle.il_inline.specs.Expanded.{WholeExpansion}
 use Rattle.info_flow.specs.Agreement.{Agree}
 use Rattle.info_flow.specs.declared.row.FlowRow.{FlowRow}
 use Rattle.semantic_tables.specs.OneRow.{OneRowEach}
@@ -99,6 +100,6 @@ pub record Headline (t : Text) (report : Report) : Type 0 where
 abbrev pub NoProcedureHasABadRun : Text → Type 0
 NoProcedureHasABadRun t = (k : ℕ) (p : TextProcedure) → slice_get t.procs k ≡ Some p → HasNoBadRun p.body
 
--- a report is that of the first procedures of a text, with rows for these certificates, and says this of their runs
-abbrev pub IsTold : List NamedCert → Text → Report → Type 0
-IsTold certs t report = IsReportOfFront certs t report × Headline t report
+-- a report is that of the first procedures of an expanded text, with rows for these certificates, and says this of their runs
+abbrev pub IsTold : List NamedCert → WholeExpansion → Report → Type 0
+IsTold certs x report = IsReportOfFront certs x report × Headline x.text report

@@ -1,8 +1,10 @@
 -- The report of a procedure: its name, places, lines and arcs, its control structure and its reduction by intervals, and, exactly where it is
 -- reducible, its paths, the use of its variables, the flow of information, the slice for each variable, the table of each region with the test inputs
 -- of its rows, and the threats with their verdicts, with a certificate for each that is refuted. It has a row for each of the given certificates that
--- names it. The report of a text, or of its first procedures, has the text's title and profile.
-use Rattle.std.specs.Prelude.{◌≡◌, ◌≤◌, ℕ, List, [], ◌∷◌, length, map, take, Option, None, Some, IfSome}
+-- names it. The report of an expanded text, or of its first procedures, has the text's title and profile, and tells of each procedure the lines that
+-- stand for each of its calls, with the name of the procedure called.
+use Rattle.std.specs.Prelude.{◌≡◌, ◌≤◌, ℕ, List, [], ◌∷◌, length, map, take, Option, None, Some, IfSome, unwrap_or, slice_get}
+use Rattle.std.specs.Option.{option_map}
 use Rattle.compliance.specs.Safe.{AreThreatsOf}
 use Rattle.control_flow.specs.Control.{IsControlOf}
 use Rattle.control_flow.specs.declared.control.LoopInfo.{LoopInfo}
@@ -13,8 +15,10 @@ use Rattle.data_use.specs.declared.row.UseRow.{UseRow}
 use Rattle.flow_graph.specs.Graph.{graph_of}
 use Rattle.il_core.specs.LineGraph.{IsIn}
 use Rattle.il_core.specs.Procedure.{Procedure}
-use Rattle.il_core.specs.Text.{TextProcedure, Text}
+use Rattle.il_called.specs.declared.called.CallSpan.{CallSpan}
+use Rattle.il_core.specs.Text.{TextProcedure}
 use Rattle.il_core.specs.declared.certificate.NamedCert.{NamedCert}
+use Rattle.il_inline.specs.Expanded.{WholeExpansion}
 use Rattle.info_flow.specs.Sources.{AreFlows}
 use Rattle.interval_reduce.specs.Derivation.{IsDerivationOf, Reduces}
 use Rattle.path_expr.specs.Report.{IsPathReportOf, WordsArePaths}
@@ -25,6 +29,7 @@ use Rattle.report.specs.Certified.{certs_for, threats_in, AreCertRows, AreMade}
 use Rattle.report.specs.Sliced.{AreSlices}
 use Rattle.report.specs.declared.report.RegionTable.{RegionTable}
 use Rattle.report.specs.declared.report.Analyses.{Analyses}
+use Rattle.report.specs.declared.report.CallLine.{CallLine}
 use Rattle.report.specs.declared.report.ProcReport.{ProcReport}
 use Rattle.report.specs.declared.report.Report.{Report}
 
@@ -72,15 +77,29 @@ AreProcReportsOf certs [] (r ∷ rs) = ⊥
 AreProcReportsOf certs (p ∷ ps) [] = ⊥
 AreProcReportsOf certs (p ∷ ps) (r ∷ rs) = IsProcReportOf certs p r × AreProcReportsOf certs ps rs
 
--- the report of the first procedures of a text, as many as it holds
-pub record IsReportOfFront (certs : List NamedCert) (t : Text) (r : Report) : Type 0 where
-  pub title : r.title ≡ t.title
-  pub profile : r.profile ≡ t.profile
-  pub few : length r.procs ≤ length t.procs
-  pub procs : AreProcReportsOf certs (take (length r.procs) t.procs) r.procs
+-- the name of the procedure of a number, counted from 0
+abbrev pub name_at : List TextProcedure → ℕ → List ℕ
+name_at procs k = unwrap_or (option_map (λ (p : TextProcedure). p.name) (slice_get procs k)) []
 
--- the report of all procedures of a text
-pub record IsReportOf (certs : List NamedCert) (t : Text) (r : Report) : Type 0 where
-  pub title : r.title ≡ t.title
-  pub profile : r.profile ≡ t.profile
-  pub procs : AreProcReportsOf certs t.procs r.procs
+-- the lines of a call, with the name of the procedure called
+abbrev pub call_line : List TextProcedure → CallSpan → CallLine
+call_line procs span = record { first = span.first; last = span.last; callee = name_at procs span.callee }
+
+-- the calls of each procedure of an expanded text
+abbrev pub call_lines : WholeExpansion → List (List CallLine)
+call_lines x = map (map (call_line x.text.procs)) x.spans
+
+-- the report of the first procedures of an expanded text, as many as it holds
+pub record IsReportOfFront (certs : List NamedCert) (x : WholeExpansion) (r : Report) : Type 0 where
+  pub title : r.title ≡ x.text.title
+  pub profile : r.profile ≡ x.text.profile
+  pub few : length r.procs ≤ length x.text.procs
+  pub procs : AreProcReportsOf certs (take (length r.procs) x.text.procs) r.procs
+  pub calls : map (λ (p : ProcReport). p.calls) r.procs ≡ take (length r.procs) (call_lines x)
+
+-- the report of all procedures of an expanded text
+pub record IsReportOf (certs : List NamedCert) (x : WholeExpansion) (r : Report) : Type 0 where
+  pub title : r.title ≡ x.text.title
+  pub profile : r.profile ≡ x.text.profile
+  pub procs : AreProcReportsOf certs x.text.procs r.procs
+  pub calls : map (λ (p : ProcReport). p.calls) r.procs ≡ call_lines x

@@ -68,6 +68,17 @@ pub struct CertRow {
     pub holds: bool,
 }
 
+/// The lines of a procedure that stand for one of its calls.
+#[derive(Clone, Copy, Debug, PartialEq, Eq, Drop)]
+pub struct CallLine {
+    /// The first of them.
+    pub first: usize,
+    /// The last of them.
+    pub last: usize,
+    /// The name of the procedure that is called.
+    pub callee: Name,
+}
+
 /// The report of one procedure.
 #[derive(Drop)]
 pub struct ProcReport {
@@ -77,6 +88,8 @@ pub struct ProcReport {
     pub places: List<Place>,
     /// The number of its lines.
     pub lines: usize,
+    /// Its calls in order, each with the lines that stand for it.
+    pub calls: List<CallLine>,
     /// The arcs of its graph, which are numbered from 1.
     pub arcs: List<Arc>,
     /// Its control structure.

@@ -15,16 +15,15 @@ syntax keyword malpasDeclaration CONST TYPE
 syntax keyword malpasMode IN INOUT OUT LOCAL
 syntax keyword malpasType BOOL WRAP
 syntax keyword malpasControl IF ELSE ENDIF LOOP ENDLOOP EXIT WHEN SKIP RETURN
-syntax keyword malpasJump LABEL GOTO
+syntax keyword malpasJump LABEL GOTO CALL
 syntax keyword malpasAssertion PRE POST ASSERT OLD
 syntax keyword malpasTruth TRUE FALSE
 syntax keyword malpasOperator NOT AND OR DIV MOD
-syntax keyword malpasReserved CALL
 
 syntax match malpasIllegal "[^[:blank:][:cntrl:]A-Za-z0-9_:;,()+*=<>/.-]"
 syntax match malpasNumber "\<[0-9]\+\>"
 syntax match malpasSymbol ":=\|\.\.\|/=\|<=\|>=\|[-+*=<>]"
-syntax match malpasName "\%(\<\%(TITLE\|PROC\)\s\+\)\@<=[A-Za-z][A-Za-z0-9_]*"
+syntax match malpasName "\%(\<\%(TITLE\|PROC\|CALL\)\s\+\)\@<=[A-Za-z][A-Za-z0-9_]*"
 syntax region malpasComment start="\[" end="\]" contains=malpasTodo
 syntax keyword malpasTodo contained TODO FIXME
 
@@ -37,7 +36,6 @@ highlight default link malpasJump Label
 highlight default link malpasAssertion PreCondit
 highlight default link malpasTruth Boolean
 highlight default link malpasOperator Operator
-highlight default link malpasReserved Error
 highlight default link malpasIllegal Error
 highlight default link malpasNumber Number
 highlight default link malpasSymbol Operator

@@ -4,7 +4,7 @@ use Rattle.il_core.specs.Statement.{placed}
 use Rattle.il_types.specs.CountsBelow.{IsBehind}
 use Rattle.il_types.specs.Names.{front_of, counts_at}
 use Rattle.il_types.specs.Rules.{twice, at_stmt}
-use Rattle.il_types.proofs.names.declare_all.Given as goal
+use Rattle.il_types.proofs.names.declare_until.Given as goal
 
 abbrev pub invariant-loop-i : goal.invariant-loop-i
 invariant-loop-i l = record {

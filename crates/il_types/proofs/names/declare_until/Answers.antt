@@ -5,7 +5,7 @@ use Rattle.il_core.specs.Statement.{placed, statement_of}
 use Rattle.il_core.specs.declared.refusal.Code.TheVariants as code
 use Rattle.il_types.specs.Rules.{naming, twice}
 use Rattle.il_types.proofs.Passing.{first_here, twice_here, table_more, counts_more, before_more, nowhere, whole_front}
-use Rattle.il_types.proofs.names.declare_all.Goals as goal
+use Rattle.il_types.proofs.names.declare_until.Goals as goal
 
 pub returns-in-Some : goal.returns-in-Some
 returns-in-Some c =
