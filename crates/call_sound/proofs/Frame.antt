@@ -1,18 +1,16 @@
 -- The procedures of a text with calls, in their order: how many they are, and that the places of each are in order.
 use Rattle.std.proofs.Common.{◌≡◌, ℕ, zero, suc, ◌+◌, ◌<◌, ◌≤◌, ◌∙◌, sym, ap, subst, refl, List, [], ◌∷◌, length, arith}
 use Rattle.std.specs.Prelude.{Some, slice_get}
-use Rattle.std.proofs.Math.Seq.{take-length}
-use Rattle.std.proofs.lemmas.List.{length-append}
 use Rattle.std.proofs.lemmas.Option.{same_Some, slice_get_within}
 use Rattle.il_core.specs.Checked.{AreInOrder}
-use Rattle.il_core.specs.Statement.{Statement, Placed, procedure}
+use Rattle.il_core.specs.Statement.{Placed, procedure}
 use Rattle.il_core.specs.declared.statement.Link.{Link}
-use Rattle.il_blocks.specs.BlockLabel.{begins, procedures, owner}
+use Rattle.il_blocks.specs.BlockLabel.{procedures, owner}
 use Rattle.il_types.specs.declared.counts.Counts.{Counts}
 use Rattle.il_types.specs.Names.{counts_at}
-use Rattle.il_built.specs.CheckedText.{named, procedure_names}
+use Rattle.il_built.specs.CheckedText.{procedure_names}
 use Rattle.il_built.proofs.CheckedLinesCounts.{owner_is}
-use Rattle.il_built.proofs.CheckedLinesWhole.{some_procedures}
+use Rattle.il_built.proofs.CheckedLinesWhole.{names_owned, some_procedures}
 use Rattle.il_built.proofs.CheckedPlaces.{places_in_order}
 use Rattle.il_built.proofs.Given.{stands, counts_next}
 use Rattle.il_built.proofs.Profile.{profile_is}
@@ -29,21 +27,6 @@ counted stmts links owner (name ∷ names) = ap suc (counted stmts links (suc ow
 -- there are as many procedures as names of procedures
 pub procedures_counted : (stmts : List Placed) (links : List Link) → length (written_procedures stmts links) ≡ length (procedure_names stmts)
 procedures_counted stmts links = counted stmts links 1 (procedure_names stmts)
-
-one_name : (s : Placed) → length (named s) ≡ begins s.says
-one_name s = by s.says
-  where
-    by : (x : Statement) → length (named (record { place = s.place; says = x })) ≡ begins x
-    by (procedure _) = refl
-    by _ = refl
-
-names_are : (stmts : List Placed) → length (procedure_names stmts) ≡ procedures stmts
-names_are [] = refl
-names_are (s ∷ ss) = length-append (named s) (procedure_names ss) ∙ ap (λ (n : ℕ). n + length (procedure_names ss)) (one_name s) ∙ ap (λ (n : ℕ). begins s.says + n) (names_are ss)
-
--- and as begin before the end
-pub names_owned : (stmts : List Placed) → length (procedure_names stmts) ≡ owner stmts (length stmts)
-names_owned stmts = names_are stmts ∙ ap procedures (sym (take-length stmts))
 
 -- few procedures stand in front of each statement and of the end
 few_before : (stmts : List Placed) (links : List Link) (i : ℕ) → KeepsCalls stmts links → i ≤ length stmts → (counts_at stmts i).procedures ≤ 64

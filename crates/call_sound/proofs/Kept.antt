@@ -1,18 +1,13 @@
 -- What statements that keep all rules of texts with calls keep.
-use Rattle.std.proofs.Common.{◌≡◌, ℕ, ◌+◌, ◌≤◌, refl, Bool, true, false, List, arith, if◌then◌else◌}
-use Rattle.std.specs.Prelude.{Some, None, nat_lt, slice_get}
-use Rattle.std.specs.Option.{option_map}
+use Rattle.std.proofs.Common.{◌≡◌, ℕ, refl, Bool, true, false, List}
+use Rattle.std.specs.Prelude.{Some, None, slice_get}
 use Rattle.il_core.specs.Statement.{Placed}
 use Rattle.il_core.specs.declared.refusal.Code.{Code}
-use Rattle.il_core.specs.declared.refusal.Code.TheVariants as code
-use Rattle.il_core.specs.declared.refusal.Many.TheVariants as many
 use Rattle.il_core.specs.declared.statement.Link.{Link}
-use Rattle.il_types.specs.declared.counts.Counts.{Counts}
 use Rattle.il_types.specs.declared.rules.Rule.TheVariants as rule
-use Rattle.il_types.specs.Counts.{too_many}
-use Rattle.il_types.specs.Rules.{unnamed, unless, ComesNowhere}
+use Rattle.il_types.specs.Rules.{unless, ComesNowhere}
 use Rattle.il_built.proofs.BuiltRanges.{nowhere_at}
-use Rattle.il_built.proofs.WithoutFault.{AreWithinLimits}
+use Rattle.il_built.proofs.WithoutFault.{AreWithinLimits, within_limits}
 use Rattle.call_rules.specs.Calls.{fault_at}
 use Rattle.call_rules.specs.Clash.{twice_at}
 use Rattle.call_rules.specs.Fits.{misfit_at}
@@ -46,21 +41,6 @@ keeps_calls stmts links a = record {
 pub holds : (b : Bool) (c : Code) → unless b c ≡ None → b ≡ true
 holds true c e = refl
 holds false c e = absurd (cc)
-
--- counts of which there is not too much
-within_limits : (c : Counts) → option_map (λ m. unnamed (code.TooMany m)) (too_many c) ≡ None → AreWithinLimits c
-within_limits c h = by (nat_lt 64 c.procedures) (nat_lt 1000 c.lines) (nat_lt 64 (c.variables + c.copies)) refl refl refl h
-  where
-    at_most : (n m : ℕ) → nat_lt n m ≡ false → m ≤ n
-    at_most n m e = grind arith
-
-    by : (p l q : Bool) → nat_lt 64 c.procedures ≡ p → nat_lt 1000 c.lines ≡ l → nat_lt 64 (c.variables + c.copies) ≡ q
-        → option_map (λ m. unnamed (code.TooMany m)) (if p then Some many.Procedures else (if l then Some many.Lines else (if q then Some many.Places else None))) ≡ None
-        → AreWithinLimits c
-    by true l q e f g h = absurd (cc)
-    by false true q e f g h = absurd (cc)
-    by false false true e f g h = absurd (cc)
-    by false false false e f g h = record { procedures = at_most 64 c.procedures e; lines = at_most 1000 c.lines f; places = at_most 64 (c.variables + c.copies) g }
 
 -- the counts behind each statement, with what its CALLs count as, keep the limits
 pub limited_behind : (stmts : List Placed) (links : List Link) (i : ℕ) (x : Placed) → KeepsCalls stmts links → slice_get stmts i ≡ Some x

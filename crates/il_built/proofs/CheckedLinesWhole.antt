@@ -42,7 +42,7 @@ names_are [] = refl
 names_are (s ∷ ss) = length-append (named s) (procedure_names ss) ∙ ap (λ (n : ℕ). n + length (procedure_names ss)) (one_name s) ∙ ap (λ (n : ℕ). begins s.says + n) (names_are ss)
 
 -- and as begin before the end
-names_owned : (stmts : List Placed) → length (procedure_names stmts) ≡ owner stmts (length stmts)
+pub names_owned : (stmts : List Placed) → length (procedure_names stmts) ≡ owner stmts (length stmts)
 names_owned stmts = names_are stmts ∙ ap procedures (sym (take-length stmts))
 
 -- a text in order has a procedure

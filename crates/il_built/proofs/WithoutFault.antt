@@ -38,7 +38,7 @@ pub record AreWithinLimits (c : Counts) : Type 0 where
   pub places : c.variables + c.copies ≤ 64
 
 -- counts of which there is not too much
-within_limits : (c : Counts) → option_map (λ m. unnamed (code.TooMany m)) (too_many c) ≡ None → AreWithinLimits c
+pub within_limits : (c : Counts) → option_map (λ m. unnamed (code.TooMany m)) (too_many c) ≡ None → AreWithinLimits c
 within_limits c h = by (nat_lt 64 c.procedures) (nat_lt 1000 c.lines) (nat_lt 64 (c.variables + c.copies)) refl refl refl h
   where
     at_most : (n m : ℕ) → nat_lt n m ≡ false → m ≤ n
