@@ -13,6 +13,7 @@ use Rattle.il_types.specs.declared.rules.Rule.TheVariants as rule
 use Rattle.il_types.specs.Counts.{is_line, one_if, counts_behind, too_many}
 use Rattle.il_types.specs.Names.{front_of, counts_at}
 use Rattle.il_types.specs.Rules.{unnamed, ComesNowhere, broken}
+use Rattle.il_built.proofs.CheckedLinesWhole.{names_owned}
 use Rattle.il_built.proofs.Given.{stands, counts_next, given_next, given_here}
 use Rattle.call_limits.proofs.Passed.{none_yet, later}
 use Rattle.call_rules.specs.CalledText.{written_lines, lines_before, callees_before}
@@ -21,7 +22,7 @@ use Rattle.std.proofs.lemmas.Option.{slice_get_within}
 use Rattle.il_built.proofs.CheckedLinesCounts.{owner_is}
 use Rattle.il_built.proofs.WithoutFault.{AreWithinLimits}
 use Rattle.il_called.specs.Expansion.{brings}
-use Rattle.call_sound.proofs.Frame.{names_owned, procedures_counted}
+use Rattle.call_sound.proofs.Frame.{procedures_counted}
 use Rattle.call_sound.proofs.Kept.{KeepsCalls, limited_behind}
 use Rattle.call_sound.proofs.Own.{nowhere}
 use Rattle.call_sound.proofs.Positive.{no_fewer, widths_positive}

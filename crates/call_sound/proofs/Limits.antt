@@ -12,6 +12,7 @@ use Rattle.il_syntax.specs.Order.{IsInOrder, part_of}
 use Rattle.il_blocks.specs.BlockLabel.{owner}
 use Rattle.il_blocks.specs.BlockLink.{has_line}
 use Rattle.il_types.specs.Names.{counts_at}
+use Rattle.il_built.proofs.CheckedLinesWhole.{names_owned}
 use Rattle.il_built.specs.CheckedText.{of_procedure, declared_place, procedure_names, variables_of}
 use Rattle.il_built.specs.Holding.{setting_at}
 use Rattle.il_built.proofs.CheckedLinesCounts.{owner_is}
@@ -25,7 +26,6 @@ use Rattle.il_built.proofs.WithoutFault.{AreWithinLimits}
 use Rattle.il_called.specs.Expansion.{brings, callees_of}
 use Rattle.call_rules.specs.CalledText.{written_lines, written_procedures, lines_before, callees_before}
 use Rattle.call_rules.specs.Limits.{lines_in, widths_of, counts_with_calls}
-use Rattle.call_sound.proofs.Frame.{names_owned}
 use Rattle.call_sound.proofs.Kept.{KeepsCalls, limited_behind}
 
 -- a statement that is no line gives none

@@ -7,6 +7,7 @@ use Rattle.il_core.specs.Statement.{Placed}
 use Rattle.il_core.specs.declared.statement.Link.{Link}
 use Rattle.il_syntax.specs.Order.{IsInOrder}
 use Rattle.il_blocks.specs.BlockLabel.{owner}
+use Rattle.il_built.proofs.CheckedLinesWhole.{names_owned}
 use Rattle.il_built.specs.CheckedText.{post_of}
 use Rattle.il_built.proofs.CheckedLinesCounts.{owner_is}
 use Rattle.il_built.proofs.CheckedLinesEnd.{IsEndOf, end_of}
@@ -17,7 +18,7 @@ use Rattle.call_rules.specs.CalledText.{written_lines, written_procedures, lines
 use Rattle.call_rules.specs.Limits.{lines_in, counted_width, widths_of}
 use Rattle.call_limits.proofs.Callees.{made, callees_push, take_next}
 use Rattle.call_limits.proofs.Widths.{widths_push}
-use Rattle.call_sound.proofs.Frame.{names_owned, procedure_at}
+use Rattle.call_sound.proofs.Frame.{procedure_at}
 use Rattle.call_sound.proofs.Limits.{ended_lines}
 
 -- the ENDPROC of a procedure counts as a line
