@@ -1,5 +1,5 @@
 //! The certificates that are made of refuted threats.
-use acceptance::accept;
+use crate::rows::accepted;
 use malpas_suite::analyse;
 use report::{Report, status_of};
 use std::alloc::Global;
@@ -28,12 +28,12 @@ fn are_numbered(report: &Report, number: usize, last: usize) -> bool {
 #[test]
 fn made_certificates_hold(rt: HostRuntime) -> Result<(), Fail> {
     let alloc = rt.alloc();
-    let checked = accept(alloc, TEXT).or(Err("not accepted"))?;
-    let report = analyse(alloc, &checked, &[])?;
+    let expanded = accepted(alloc, TEXT)?;
+    let report = analyse(alloc, &expanded, &[])?;
     assert!(rt; are_numbered(&report, 0, 6) && are_numbered(&report, 1, 1));
     for part in report.procs.as_slice() {
         let analyses = part.analyses.as_ref().ok_or("not analysed")?;
-        let again = analyse(alloc, &checked, analyses.made.as_slice())?;
+        let again = analyse(alloc, &expanded, analyses.made.as_slice())?;
         let same = again
             .procs
             .as_slice()

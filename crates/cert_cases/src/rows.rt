@@ -1,7 +1,11 @@
 //! Which of the certificates that are read hold.
+ghost use Rattle.std.specs.Prelude.{◌≤◌, length, IfOk};
+ghost use Rattle.il_inline.specs.Expanded.{IsExpandedText};
+
 use acceptance::accept;
 use cert_text::read_certs;
 use il_core::{Cert, CheckedText, Item, List, Name, NamedCert, Share};
+use il_inline::Expanded;
 use malpas_suite::analyse;
 use report::{Report, status_of};
 use std::alloc::Global;
@@ -160,6 +164,17 @@ fn names_of(alloc: Global, text: &CheckedText) -> Result<Vec<Name>, Fail> {
     Ok(names)
 }
 
+/// The expansion of a text that is accepted.
+pub fn accepted(alloc: Global, text: &[u8]) -> Result<Expanded, Fail>
+    requires { length text.now ≤ 1048576 }
+    ensures { IfOk result IsExpandedText }
+{
+    match accept(alloc, text) {
+        Ok(expanded) => Ok(expanded),
+        Err(_) => Err(Fail::from("not accepted")),
+    }
+}
+
 /// The report of the text of some procedures, with certificates.
 fn report_of(alloc: Global, procs: &str, certs: &str) -> Result<Report, Fail> {
     let text = format!(in alloc; "TITLE t;{procs}FINISH;")?;
@@ -168,10 +183,10 @@ fn report_of(alloc: Global, procs: &str, certs: &str) -> Result<Report, Fail> {
     if text.len() > 1_048_576 || certs.len() > 1_048_576 {
         return Err(Fail::from("too long"));
     }
-    let checked = accept(alloc, text).or(Err("not accepted"))?;
-    let names = names_of(alloc, &checked)?;
+    let expanded = accepted(alloc, text)?;
+    let names = names_of(alloc, &expanded.text)?;
     let certs = read_certs(alloc, certs, 0, &names).or(Err("not read"))?;
-    Ok(analyse(alloc, &checked, certs.as_slice())?)
+    Ok(analyse(alloc, &expanded, certs.as_slice())?)
 }
 
 /// The rows of a report's procedures, one behind the other.
@@ -242,13 +257,13 @@ fn limits_the_shares_of_a_sum(rt: HostRuntime) -> Result<(), Fail> {
     if text.len() > 1_048_576 {
         return Err(Fail::from("too long"));
     }
-    let checked = accept(alloc, text).or(Err("not accepted"))?;
+    let expanded = accepted(alloc, text)?;
     let certs = [
         often(alloc, 0, false)?,
         often(alloc, 64, false)?,
         often(alloc, 63, true)?,
     ];
-    let report = analyse(alloc, &checked, &certs)?;
+    let report = analyse(alloc, &expanded, &certs)?;
     assert!(rt; tells(alloc, &report, "1-1+1-", 1)?);
     Ok(())
 }

@@ -17,7 +17,7 @@ pub fn accepted(alloc: Global, text: &[u8]) -> Result<CheckedText, Fail> {
         return Err(Fail::from("too long"));
     }
     match accept(alloc, text) {
-        Ok(checked) => Ok(checked),
+        Ok(expanded) => Ok(expanded.text),
         Err(TextEnd::Refused(_)) => Err(Fail::from("refused")),
         Err(TextEnd::NoMemory) => Err(Fail::from(NoMemory)),
     }

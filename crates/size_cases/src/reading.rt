@@ -79,7 +79,7 @@ pub fn size_of(alloc: Global, body: &str, region: usize) -> Result<Option<Limit>
     if bytes.len() > 1_048_576 {
         return Err(Fail::from("too long"));
     }
-    let checked = accept(alloc, bytes).or(Err("refused"))?;
+    let checked = accept(alloc, bytes).or(Err("refused"))?.text;
     let proc = checked.procs().get(0).ok_or("no procedure")?;
     let graph = lower(alloc, proc)?;
     let lines = build(alloc, proc)?;

@@ -113,8 +113,8 @@ fn text_is_as(alloc: Global, text: &[u8], cases: &[Case]) -> Result<bool, Fail> 
         return Err(Fail::from("too long"));
     }
     match accept(alloc, text) {
-        Ok(checked) => {
-            let proc = checked.procs().get(0).ok_or("no procedure")?;
+        Ok(expanded) => {
+            let proc = expanded.text.procs().get(0).ok_or("no procedure")?;
             are_as(alloc, proc, cases)
         }
         Err(TextEnd::Refused(_)) => Err(Fail::from("refused")),

@@ -123,7 +123,7 @@ pub fn checked(alloc: Global, text: &[u8]) -> Result<CheckedText, Fail> {
         return Err(Fail::from("too long"));
     }
     match accept(alloc, text) {
-        Ok(checked) => Ok(checked),
+        Ok(expanded) => Ok(expanded.text),
         Err(TextEnd::Refused(_)) => Err(Fail::from("refused")),
         Err(TextEnd::NoMemory) => Err(Fail::from("out of memory")),
     }

@@ -11,8 +11,8 @@ fn outcome(alloc: Global, text: &[u8]) -> Result<Result<(usize, usize, usize), R
         return Err(Fail::from("too long"));
     }
     match accept(alloc, text) {
-        Ok(checked) => {
-            let procs = checked.procs();
+        Ok(expanded) => {
+            let procs = expanded.text.procs();
             let first = procs.get(0).ok_or("no procedure")?;
             Ok(Ok((procs.len(), first.lines().len(), first.places().len())))
         }

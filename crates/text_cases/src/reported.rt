@@ -66,8 +66,8 @@ pub fn reported(alloc: Global, asked: Selection, text: &str) -> Result<SureSink,
     }
     let mut sink = SureSink::new(alloc, 5_000)?;
     match accept(alloc, bytes) {
-        Ok(checked) => {
-            let report = analyse(alloc, &checked, &[])?;
+        Ok(expanded) => {
+            let report = analyse(alloc, &expanded, &[])?;
             put(&report, asked, &mut sink)?;
         }
         Err(TextEnd::Refused(refusal)) => put_refusal(&refusal, &mut sink)?,

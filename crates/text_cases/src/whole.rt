@@ -1,7 +1,11 @@
 //! The reports of whole texts, from their bytes to those of their reports.
+ghost use Rattle.std.specs.Prelude.{◌≤◌, length, IfOk};
+ghost use Rattle.il_inline.specs.Expanded.{IsExpandedText};
+
 use crate::reported::{BUT_FLOW, CONTROL, PATHS, TABLES, VARIABLES};
 use acceptance::accept;
 use il_edge::SureSink;
+use il_inline::Expanded;
 use malpas_suite::analyse;
 use report::status_of;
 use report_text::{Selection, put};
@@ -11,6 +15,17 @@ use std::test::Fail;
 /// The sections that are asked for, what stands between PROC and ENDPROC, the status of the report, and the report.
 type Case<'a> = (Selection, &'a str, u8, &'a str);
 
+/// The expansion of a text that is accepted.
+fn accepted(alloc: Global, text: &[u8]) -> Result<Expanded, Fail>
+    requires { length text.now ≤ 1048576 }
+    ensures { IfOk result IsExpandedText }
+{
+    match accept(alloc, text) {
+        Ok(expanded) => Ok(expanded),
+        Err(_) => Err(Fail::from("not accepted")),
+    }
+}
+
 /// Whether the text of a procedure p has this report.
 fn is_reported(alloc: Global, case: &Case) -> Result<bool, Fail> {
     let (asked, body, status, written) = case;
@@ -19,8 +34,8 @@ fn is_reported(alloc: Global, case: &Case) -> Result<bool, Fail> {
     if bytes.len() > 1_048_576 {
         return Err(Fail::from("too long"));
     }
-    let checked = accept(alloc, bytes).or(Err("not accepted"))?;
-    let report = analyse(alloc, &checked, &[])?;
+    let expanded = accepted(alloc, bytes)?;
+    let report = analyse(alloc, &expanded, &[])?;
     let mut sink = SureSink::new(alloc, 5_000)?;
     put(&report, *asked, &mut sink)?;
     Ok(sink.held() == written.as_bytes() && status_of(&report) == *status)

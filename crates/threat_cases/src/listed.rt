@@ -65,7 +65,7 @@ pub fn are_threats(
     if text.len() > 1_048_576 {
         return Err(Fail::from("too long"));
     }
-    let checked = accept(alloc, text).or(Err("refused"))?;
+    let checked = accept(alloc, text).or(Err("refused"))?.text;
     let proc = checked.procs().get(number).ok_or("no procedure")?;
     let found = threats_of(alloc, proc)?.ok_or("not reducible")?;
     let rows = found.as_slice();

@@ -81,7 +81,7 @@ fn way_text(alloc: Global, graph: &TestGraph, line: usize, path: &str) -> Result
 
 #[test]
 fn lines_have_their_ways(rt: HostRuntime) -> Result<(), Fail> {
-    let checked = accept(rt.alloc(), LINES).or(Err("refused"))?;
+    let checked = accept(rt.alloc(), LINES).or(Err("refused"))?.text;
     let proc = checked.procs().get(0).ok_or("no procedure")?;
     let graph = lower(rt.alloc(), proc)?;
     let cases: [(usize, &[(&str, &str)]); 15] = [
@@ -179,7 +179,7 @@ fn to_halt(halt: Halt, used: usize) -> Option<Taken> {
 
 #[test]
 fn steps_follow_decisions(rt: HostRuntime) -> Result<(), Fail> {
-    let checked = accept(rt.alloc(), LINES).or(Err("refused"))?;
+    let checked = accept(rt.alloc(), LINES).or(Err("refused"))?.text;
     let proc = checked.procs().get(0).ok_or("no procedure")?;
     // x, a, b, q, f, g, w, z and e, then the OLD copies of x, q, f, w, z and e
     let start = [9i64, 1, 0, 3, 0, 1, 9, 100, 0, 9, 3, 0, 9, 100, 0];
@@ -224,7 +224,7 @@ fn nodes_with(alloc: Global, condition: &str) -> Result<usize, Fail> {
     if bytes.len() > 1_048_576 {
         return Err(Fail::from("too long"));
     }
-    let checked = accept(alloc, bytes).or(Err("refused"))?;
+    let checked = accept(alloc, bytes).or(Err("refused"))?.text;
     let proc = checked.procs().get(0).ok_or("no procedure")?;
     let graph = lower(alloc, proc)?;
     Ok(graph.nodes.len())

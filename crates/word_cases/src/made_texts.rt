@@ -26,7 +26,7 @@ fn lines_of(alloc: Global, number: u8) -> Result<usize, Fail>
 {
     let text = make_text(alloc, number)?;
     match accept(alloc, text.as_slice()) {
-        Ok(checked) => match checked.procs().as_slice() {
+        Ok(expanded) => match expanded.text.procs().as_slice() {
             [one] => Ok(one.lines().len()),
             _ => Ok(0),
         },

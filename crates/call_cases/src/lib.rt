@@ -1,0 +1,19 @@
+//! Worked cases of texts with calls, tried through the public call that accepts them: each rule that a CALL may break, with a text
+//! that breaks it and one beside it that does not, and what calls become. Nothing but tests stands here, so that no layer is
+//! proved with its tests.
+#![tactic(auto)]
+
+#[cfg(test)]
+mod expansions;
+#[cfg(test)]
+mod fits;
+#[cfg(test)]
+mod forms;
+#[cfg(test)]
+mod names;
+#[cfg(test)]
+mod rows;
+#[cfg(test)]
+mod sizes;
+#[cfg(test)]
+mod types;
