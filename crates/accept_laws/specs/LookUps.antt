@@ -19,7 +19,7 @@ use Rattle.il_types.specs.Names.{Setting, Spot, declaration}
 use Rattle.il_types.specs.Typing.{bound_value, kind_of_use, is_truth}
 use Rattle.il_built.specs.CheckedText.{given, posted}
 use Rattle.il_built.specs.Holding.{setting_at}
-use Rattle.il_called.specs.Called.{Passed, value, variable_of, WrittenLine}
+use Rattle.il_called.specs.Called.{Passed, WrittenLine}
 use Rattle.il_called.specs.Called as called
 use Rattle.il_called.specs.Expansion.{is_returned}
 use Rattle.call_rules.specs.declared.parameters.Parameter.{Parameter}
@@ -112,7 +112,7 @@ earlier_found s name = option_and_then (λ c. if nat_lt c s.owner then Some c el
 -- what an argument gives its parameter: to an INOUT or OUT one the variable that its single name stands for, to an IN one a value
 abbrev pub passed_found : Setting → Parameter → Tree → Option Passed
 passed_found s p e =
-    if is_returned p.mode then option_map variable_of (option_and_then (number_found s) (single_name e)) else option_map value (expression_found s e)
+    if is_returned p.mode then option_map called.variable_of (option_and_then (number_found s) (single_name e)) else option_map called.value (expression_found s e)
 
 -- what is given to the parameters, where there is an argument for each and no other
 abbrev pub with_first : Option Passed → Option (List Passed) → Option (List Passed)
