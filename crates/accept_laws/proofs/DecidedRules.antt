@@ -7,8 +7,10 @@ use Rattle.std.proofs.lemmas.Option.{slice_get_past}
 use Rattle.il_core.specs.Statement.{Statement, Placed}
 use Rattle.il_core.specs.declared.refusal.Refusal.{Refusal}
 use Rattle.il_types.specs.declared.rules.Found.{Found}
-use Rattle.il_types.specs.Rules.{passes, at_stmt, ComesFirst, ComesNowhere, Refuses, Answers}
+use Rattle.il_core.specs.declared.statement.Link.{Link}
+use Rattle.il_types.specs.Rules.{at_stmt, ComesFirst, ComesNowhere, Refuses}
 use Rattle.il_built.proofs.Entered.{bound}
+use Rattle.call_rules.specs.Rules.{passes, Answers}
 
 -- among the first n statements a pass finds none, or a first one
 abbrev Search : (ℕ → Statement → Option Found) → List Placed → ℕ → Type 0
@@ -66,5 +68,5 @@ refuses_decided (p ∷ ps) stmts = by (pass_decided p stmts) (refuses_decided ps
     by (inr r) x = (Some r.0, inl r.1)
 
 -- each text has a first fault of the rules or none
-pub rules_decided : (stmts : List Placed) → (answer : Option Refusal) × Answers stmts answer
-rules_decided stmts = refuses_decided (passes stmts) stmts
+pub rules_decided : (stmts : List Placed) (links : List Link) → (answer : Option Refusal) × Answers stmts links answer
+rules_decided stmts links = refuses_decided (passes stmts links) stmts

@@ -5,4 +5,6 @@ pub mod DecidedBlocks
 pub mod DecidedRules
 pub mod DecidedTexts
 pub mod Posted
+pub mod Found
+pub mod CallFound
 pub mod NoDefault

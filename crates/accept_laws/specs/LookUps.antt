@@ -1,6 +1,6 @@
 -- What a statement's names stand for, looked up without a default: where a name has no declaration in force, or one of another sort than is
 -- asked for, there is none. The end of a range, `bound_value`, and the kind of a type, `kind_of_use`, have no default already.
-use Rattle.std.specs.Prelude.{ℕ, ◌-◌, ℤ, pos, Bool, true, false, List, [], ◌∷◌, length, Option, Some, None, if◌then◌else◌, nat_eq, slice_get}
+use Rattle.std.specs.Prelude.{ℕ, ◌-◌, ℤ, pos, Bool, true, false, List, [], ◌∷◌, length, Option, Some, None, if◌then◌else◌, nat_eq, nat_lt, slice_get}
 use Rattle.std.specs.Option.{option_and_then, option_map}
 use Rattle.il_core.specs.Expression.{Expression}
 use Rattle.il_core.specs.Expression as e
@@ -19,6 +19,13 @@ use Rattle.il_types.specs.Names.{Setting, Spot, declaration}
 use Rattle.il_types.specs.Typing.{bound_value, kind_of_use, is_truth}
 use Rattle.il_built.specs.CheckedText.{given, posted}
 use Rattle.il_built.specs.Holding.{setting_at}
+use Rattle.il_called.specs.Called.{Passed, WrittenLine}
+use Rattle.il_called.specs.Called as called
+use Rattle.il_called.specs.Expansion.{is_returned}
+use Rattle.call_rules.specs.declared.parameters.Parameter.{Parameter}
+use Rattle.call_rules.specs.Callee.{procedure_named}
+use Rattle.call_rules.specs.Calls.{single_name}
+use Rattle.call_rules.specs.Parameters.{parameters}
 
 -- a range, where both of its ends have a value
 abbrev pub ends : Bool → Option ℤ → Option ℤ → Option Range
@@ -97,6 +104,30 @@ expression_found s (constant b) = Some (e.truth b)
 expression_found s (minus a) = option_map e.minus (expression_found s a)
 expression_found s (opposite a) = option_map e.opposite (expression_found s a)
 expression_found s (two o a b) = joined (e.two o) (expression_found s a) (expression_found s b)
+
+-- the number of the earlier procedure that a name stands for, counted from 1
+abbrev pub earlier_found : Setting → List ℕ → Option ℕ
+earlier_found s name = option_and_then (λ c. if nat_lt c s.owner then Some c else None) (procedure_named s name)
+
+-- what an argument gives its parameter: to an INOUT or OUT one the variable that its single name stands for, to an IN one a value
+abbrev pub passed_found : Setting → Parameter → Tree → Option Passed
+passed_found s p e =
+    if is_returned p.mode then option_map called.variable_of (option_and_then (number_found s) (single_name e)) else option_map called.value (expression_found s e)
+
+-- what is given to the parameters, where there is an argument for each and no other
+abbrev pub with_first : Option Passed → Option (List Passed) → Option (List Passed)
+with_first (Some first) (Some others) = Some (first ∷ others)
+with_first _ _ = None
+
+abbrev pub all_passed : Setting → List Parameter → List Tree → Option (List Passed)
+all_passed s [] [] = Some []
+all_passed s (p ∷ ps) (e ∷ es) = with_first (passed_found s p e) (all_passed s ps es)
+all_passed s _ _ = None
+
+-- a CALL of an earlier procedure, with what it gives to each parameter; in the text procedures are counted from 0
+abbrev pub call_found : Setting → List ℕ → List Tree → Option WrittenLine
+call_found s name arguments =
+    option_and_then (λ c. option_map (called.call (c - 1)) (all_passed s (parameters s.stmts c) arguments)) (earlier_found s name)
 
 -- the line to which statement i may jump
 abbrev pub target_in : Link → Option ℕ

@@ -1,9 +1,8 @@
--- In an accepted text no default is taken: each look-up of a name, without a default, finds what the checked text has in its place.
+-- In an accepted text no default is taken: each look-up of a name, without a default, finds what the text with calls has in its place.
 use Rattle.std.specs.Prelude.{◌≡◌, ℕ, Bool, true, false, List, Some, slice_get}
 use Rattle.il_core.specs.Checked.{old_copy}
 use Rattle.il_core.specs.Run.{is_inout}
-use Rattle.il_core.specs.Statement.{Statement, Placed, range_type, wrap_type, variable, pre, post, assign, if_true, otherwise, end_loop, exit, exit_when, goto, assert, return, end_procedure}
-use Rattle.il_core.specs.Text.{Text}
+use Rattle.il_core.specs.Statement.{Statement, Placed, range_type, wrap_type, variable, pre, post, assign, if_true, otherwise, end_loop, exit, exit_when, goto, call, assert, return, end_procedure}
 use Rattle.il_core.specs.Tree.{Tree}
 use Rattle.il_core.specs.declared.line.Place.{Place}
 use Rattle.il_core.specs.declared.statement.Link.{Link}
@@ -13,8 +12,10 @@ use Rattle.il_types.specs.Built.{range_between, place_of, place_number, copy_num
 use Rattle.il_types.specs.Names.{Setting, Spot, counts_at, declaration}
 use Rattle.il_built.specs.CheckedText.{places_of, target_at, post_of, title_of}
 use Rattle.il_built.specs.Holding.{setting_at}
+use Rattle.il_inline.specs.Expanded.{WholeExpansion}
+use Rattle.call_rules.specs.CalledText.{call_line}
 use Rattle.acceptance.specs.Acceptance.{IsAccepted}
-use Rattle.accept_laws.specs.LookUps.{range_found, place_found, number_found, expression_found, target_found, condition_found, title_found}
+use Rattle.accept_laws.specs.LookUps.{range_found, place_found, number_found, expression_found, call_found, target_found, condition_found, title_found}
 
 -- the names of an expression stand for what is built of them
 abbrev pub IsFound : Setting → Tree → Type 0
@@ -26,7 +27,7 @@ HasFound links i = target_found links i ≡ Some (target_at links i)
 
 -- each look-up that is made for statement i finds something: for the ends of the range that it declares, for the type and the place of the
 -- variable that it declares, for the variable that it assigns, for the names of its expression, for the line to which it may jump, for
--- the POST of the procedure that it ends
+-- the earlier procedure that it calls with what it gives to each of that one's parameters, for the POST of the procedure that it ends
 abbrev pub FindsAll : Setting → List Link → ℕ → Statement → Type 0
 FindsAll s links i (range_type _ least greatest) = range_found s false least greatest ≡ Some (range_between s false least greatest)
 FindsAll s links i (wrap_type _ least greatest) = range_found s true least greatest ≡ Some (range_between s true least greatest)
@@ -40,6 +41,7 @@ FindsAll s links i end_loop = HasFound links i
 FindsAll s links i exit = HasFound links i
 FindsAll s links i (exit_when tree) = IsFound s tree × HasFound links i
 FindsAll s links i (goto _) = HasFound links i
+FindsAll s links i (call name arguments) = call_found s name arguments ≡ Some (call_line s name arguments)
 FindsAll s links i (assert tree) = IsFound s tree
 FindsAll s links i return = HasFound links i
 FindsAll s links i end_procedure = condition_found s.stmts s.owner ≡ Some (post_of s.stmts s.owner)
@@ -52,13 +54,14 @@ pub record AreNumbered (s : Setting) (places : List Place) : Type 0 where
   pub copies : (word : List ℕ) (spot : Spot) (m : Mode) (name : List ℕ) (used : TypeUse) → declaration s word ≡ Some (spot, variable m name used)
       → is_inout m ≡ true → slice_get places (copy_number s spot) ≡ Some (old_copy (place_of (record s { at = spot.0 }) (variable m name used)))
 
--- a statement with an expression
+-- a statement with an expression, or a CALL, whose arguments are expressions
 abbrev pub reads : Statement → Bool
 reads (pre _) = true
 reads (post _) = true
 reads (assign _ _) = true
 reads (if_true _) = true
 reads (exit_when _) = true
+reads (call _ _) = true
 reads (assert _) = true
 reads _ = false
 
@@ -71,4 +74,4 @@ pub record TakesNoDefault (stmts : List Placed) (links : List Link) : Type 0 whe
 
 -- so it is in each accepted text, with its statements and their links
 abbrev pub NoDefaultIsTaken : Type 0
-NoDefaultIsTaken = (text : List ℕ) (t : Text) (accepted : IsAccepted text t) → TakesNoDefault accepted.say.stmts accepted.say.accepted.links
+NoDefaultIsTaken = (text : List ℕ) (x : WholeExpansion) (accepted : IsAccepted text x) → TakesNoDefault accepted.say.stmts accepted.say.accepted.links
