@@ -4,11 +4,10 @@ use Rattle.std.specs.Prelude.{Option, None, unwrap_or}
 use Rattle.std.specs.Map.{lookup}
 use Rattle.std.specs.Option.{option_and_then, option_or}
 use Rattle.il_core.specs.Statement.{Statement, Placed, call}
-use Rattle.il_types.specs.Names.{Table, Setting, setting, same_key, earlier, of_procedure, in_force, said, front_of, counts_at}
+use Rattle.il_types.specs.Names.{FindAlike, Table, Setting, setting, same_key, earlier, of_procedure, in_force, said, front_of, counts_at}
 use Rattle.il_built.specs.Holding.{setting_at}
 use Rattle.il_called.specs.Called.{WrittenProcedure}
 use Rattle.call_rules.specs.Callee.{procedure_in, procedure_named}
-use Rattle.il_types.specs.Names.{FindAlike}
 use Rattle.call_names.specs.Gathered.{called_in, clash_found, clash_in, own_names}
 use Rattle.call_names.specs.declared.outline.Outline.{Outline}
 

@@ -1,4 +1,5 @@
 pub mod Joined
+pub mod InOrder
 pub mod Passing
 pub mod Brought
 pub mod Parts

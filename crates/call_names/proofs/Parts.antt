@@ -15,7 +15,7 @@ use Rattle.call_names.specs.declared.outline.Variable.{Variable}
 use Rattle.call_names.proofs.Joined.{joined}
 use Rattle.call_names.proofs.Brought.{called_names, places_are, named_variables, named_copies, named_brought}
 
-find_same : {A B : Type 0} (p q : B → Bool) (f : A → B) (xs : List A) → ((x : A) → p (f x) ≡ q (f x)) → find p (map f xs) ≡ find q (map f xs)
+pub find_same : {A B : Type 0} (p q : B → Bool) (f : A → B) (xs : List A) → ((x : A) → p (f x) ≡ q (f x)) → find p (map f xs) ≡ find q (map f xs)
 find_same p q f [] e = refl
 find_same p q f (x ∷ xs) e = ap (λ b. cond b (Some (f x)) (find p (map f xs))) (e x) ∙ ap (cond (q (f x)) (Some (f x))) (find_same p q f xs e)
 
@@ -32,7 +32,7 @@ among_those stem rest (s ∷ sought) = by (begins_with stem s) refl (among_those
         let none : pointwise nat_eq (stem ++ rest) s ≡ false = joined stem rest s ∙ ap (λ c. c && pointwise nat_eq rest (drop (length stem) s)) e in
         ap (λ c. c || is_among sought (stem ++ rest)) none ∙ more
 
-variables_those : (stem : List ℕ) (sought : List (List ℕ)) (vs : List Variable)
+pub variables_those : (stem : List ℕ) (sought : List (List ℕ)) (vs : List Variable)
     → find (is_among sought) (map (λ (v : Variable). stem ++ v.name) vs) ≡ find (is_among (filter (begins_with stem) sought)) (map (λ (v : Variable). stem ++ v.name) vs)
 variables_those stem sought vs = find_same (is_among sought) (is_among (filter (begins_with stem) sought)) (λ (v : Variable). stem ++ v.name) vs (λ v. among_those stem v.name sought)
 

@@ -11,7 +11,7 @@ use Rattle.call_names.specs.Outlines.{IsOutlined, AreOutlined}
 use Rattle.call_names.specs.declared.outline.Outline.{Outline}
 use Rattle.call_names.specs.declared.outline.Variable.{Variable}
 use Rattle.call_names.proofs.Brought.{called_names, no_places}
-use Rattle.call_names.proofs.Parts.{in_parts, none_sought}
+use Rattle.call_names.proofs.Parts.{in_parts, variables_those, none_sought}
 
 there : (procs : List WrittenProcedure) (outlines : List Outline) (n : ℕ) (o : Outline) → AreOutlined procs outlines → slice_get outlines n ≡ Some o
     → (p : WrittenProcedure) × (slice_get procs n ≡ Some p) × IsOutlined p o
@@ -110,6 +110,13 @@ pub read_copies : (found : Option (List ℕ)) (front : List ℕ) (k : ℕ) (soug
     → found ≡ find (is_among sought) (map (λ (v : Variable). front ++ mark true k ++ v.name) (filter (λ (v : Variable). v.copied) variables))
 read_copies found front k sought vs variables d e =
     e ∙ ap (λ (ws : List Variable). find (is_among sought) (map (λ (v : Variable). front ++ mark true k ++ v.name) (filter (λ (v : Variable). v.copied) ws))) d
+
+-- of the names that begin with the stem of OLD copies is found what is found of all
+pub copies_those : (front : List ℕ) (k : ℕ) (sought those : List (List ℕ)) (s : List ℕ) (ws : List Variable) → s ≡ front ++ mark true k → those ≡ filter (begins_with s) sought
+    → find (is_among those) (map (λ (v : Variable). s ++ v.name) ws) ≡ find (is_among sought) (map (λ (v : Variable). front ++ mark true k ++ v.name) ws)
+copies_those front k sought those s ws e f =
+    ap (λ l. find (is_among l) (map (λ (v : Variable). s ++ v.name) ws)) f ∙ sym (variables_those s sought ws)
+    ∙ ap (λ (z : List ℕ). find (is_among sought) (map (λ (v : Variable). z ++ v.name) ws)) e
 
 pub read_calls : (found : Option (List ℕ)) (before : List WrittenProcedure) (s stem : List ℕ) (l those : List (List ℕ)) (j n : ℕ) → s ≡ stem → l ≡ those
     → found ≡ find (is_among l) (names_under s j (places_at before n)) → find (is_among those) (names_under stem j (places_at before n)) ≡ found

@@ -28,8 +28,7 @@ use Rattle.call_names.specs.declared.outline.Outline.{Outline}
 use Rattle.call_names.specs.declared.outline.Variable.{Variable}
 use Rattle.il_types.specs.declared.names.Redeclaration.{Redeclaration}
 use Rattle.il_types.specs.Redeclaration.{IsFirstRedeclaration}
-use Rattle.call_names.specs.Gathered.{redeclared_at}
-use Rattle.call_names.specs.Gathered.{AreGathered, called_in, calls_behind, clash_found, clash_in, own_names}
+use Rattle.call_names.specs.Gathered.{AreGathered, called_in, calls_behind, clash_found, clash_in, own_names, redeclared_at}
 use Rattle.call_names.specs.Outlines.{callee_in, AreOutlined}
 use Rattle.call_names.specs.Search.{is_among, names_under}
 use Rattle.call_names.proofs.Outlined.{calls_gathered, outlined_text}

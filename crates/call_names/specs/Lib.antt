@@ -1,3 +1,4 @@
 pub mod Search
 pub mod Outlines
+pub mod Sorted
 pub mod Gathered

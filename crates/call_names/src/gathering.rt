@@ -4,9 +4,8 @@ ghost use Rattle.std.specs.Option.{option_to_list};
 ghost use Rattle.il_core.specs.Statement.{placed, statement_of};
 ghost use Rattle.il_core.specs.Run.{is_inout};
 ghost use Rattle.il_types.specs.Counted.{AreCounted};
-ghost use Rattle.il_types.specs.Names.{front_of};
+ghost use Rattle.il_types.specs.Names.{FindAlike, front_of};
 ghost use Rattle.call_rules.specs.Parameters.{is_procedure};
-ghost use Rattle.il_types.specs.Names.{FindAlike};
 ghost use Rattle.call_names.specs.Gathered.{declared_variable, called_in, AreGathered, callee_named};
 
 use crate::outline::{Outline, Variable};

@@ -8,6 +8,7 @@ mod clash;
 mod gathering;
 mod outline;
 mod search;
+mod sorted;
 mod stem;
 mod twice;
 

@@ -3,10 +3,12 @@ ghost use Rattle.std.specs.Prelude.{◌≡◌, ◌++◌, true, List, map, find, 
 ghost use Rattle.il_called.specs.Called.{WrittenProcedure};
 ghost use Rattle.call_names.specs.Search.{is_among, mark, names_under, places_at};
 ghost use Rattle.call_names.specs.Outlines.{AreOutlined};
+ghost use Rattle.call_names.specs.Sorted.{AreInOrder};
 ghost use Rattle.call_names.specs.declared.outline.Variable.{Variable};
 
 use crate::outline::{Outline, Variable};
-use crate::stem::{all_beginning_with, is_joined, stem_of_call};
+use crate::sorted::all_beginning_with;
+use crate::stem::{is_joined, stem_of_call};
 use il_core::{Name, NoMemory};
 use std::alloc::Global;
 
@@ -67,10 +69,15 @@ fn first_copy(
     call: usize,
     sought: &[Name],
 ) -> Result<Option<Name>, NoMemory>
+    requires { AreInOrder sought.now }
     ensures { IfOk result (λ o. o ≡ find (is_among sought.now) (map (λ (v : Variable). front.now ++ mark true call ++ v.name) (filter (λ (v : Variable). v.copied) variables.now))) }
 {
     let stem = stem_of_call(alloc, front, true, call)?;
-    Ok(first_copied(stem.as_slice(), variables, sought))
+    let those = all_beginning_with(stem.as_slice(), sought);
+    if those.is_empty() {
+        return Ok(None);
+    }
+    Ok(first_copied(stem.as_slice(), variables, those))
 }
 
 /// The first of the names sought among the new names that a call of a number brings which calls the procedure of a number, each behind these
@@ -83,6 +90,7 @@ pub(crate) fn first_new(
     call: usize,
     sought: &[Name],
 ) -> Result<Option<Name>, NoMemory>
+    requires { AreInOrder sought.now }
     ensures { IfOk result (λ o. (procs : List WrittenProcedure) → AreOutlined procs outlines.now → o ≡ find (is_among sought.now) (names_under front.now call (places_at procs number))) }
 {
     let outline = match outlines.get(number) {
@@ -91,24 +99,17 @@ pub(crate) fn first_new(
     };
     let variables = outline.variables.as_slice();
     let stem = stem_of_call(alloc, front, false, call)?;
-    let those = all_beginning_with(alloc, stem.as_slice(), sought)?;
+    let those = all_beginning_with(stem.as_slice(), sought);
     if those.is_empty() {
         return first_copy(alloc, variables, front, call, sought);
     }
-    match first_variable(stem.as_slice(), variables, those.as_slice()) {
+    match first_variable(stem.as_slice(), variables, those) {
         Some(name) => return Ok(Some(name)),
         None => {}
     }
     let before = &outlines[..number];
     for (k, callee) in outline.calls.as_slice().iter().enumerate() {
-        match first_new(
-            alloc,
-            before,
-            *callee,
-            stem.as_slice(),
-            k + 1,
-            those.as_slice(),
-        )? {
+        match first_new(alloc, before, *callee, stem.as_slice(), k + 1, those)? {
             Some(name) => return Ok(Some(name)),
             None => {}
         }

@@ -1,5 +1,5 @@
 //! How the new names begin that a call brings.
-ghost use Rattle.std.specs.Prelude.{◌≡◌, ◌++◌, nat_eq, filter, IfOk, if◌then◌else◌};
+ghost use Rattle.std.specs.Prelude.{◌≡◌, ◌++◌, nat_eq, IfOk, if◌then◌else◌};
 ghost use Rattle.std.specs.Cmp.Lexicographic.{pointwise};
 ghost use Rattle.call_names.specs.Search.{mark, begins_with};
 
@@ -33,7 +33,7 @@ pub(crate) fn stem_of_call(
 }
 
 /// Whether a name begins with these bytes.
-fn begins_with(stem: &[u8], name: &Name) -> bool
+pub(crate) fn begins_with(stem: &[u8], name: &Name) -> bool
     ensures { result ≡ begins_with stem.now name.now }
 {
     name.as_bytes().strip_prefix(stem).is_some()
@@ -47,21 +47,4 @@ pub(crate) fn is_joined(stem: &[u8], last: &Name, name: &Name) -> bool
         None => false,
         Some(left) => last.as_bytes() == left,
     }
-}
-
-/// Those of the names that begin with these bytes, in their order.
-pub(crate) fn all_beginning_with(
-    alloc: Global,
-    stem: &[u8],
-    names: &[Name],
-) -> Result<Vec<Name>, NoMemory>
-    ensures { IfOk result (λ v. v.items ≡ filter (begins_with stem.now) names.now) }
-{
-    let mut those = Vec::new(alloc);
-    for name in names {
-        if begins_with(stem, name) {
-            those.push(*name)?;
-        }
-    }
-    Ok(those)
 }

@@ -4,18 +4,19 @@ ghost use Rattle.il_core.specs.Statement.{placed, statement_of};
 ghost use Rattle.il_core.specs.declared.statement.Link.{Link};
 ghost use Rattle.il_called.specs.Called.{WrittenProcedure};
 ghost use Rattle.il_types.specs.Counted.{AreCounted};
-ghost use Rattle.il_types.specs.Names.{front_of};
+ghost use Rattle.il_types.specs.Names.{FindAlike, front_of};
 ghost use Rattle.il_types.specs.Rules.{IsRefused};
 ghost use Rattle.call_rules.specs.Clash.{twice_at};
 ghost use Rattle.call_names.specs.Outlines.{AreOutlined};
-ghost use Rattle.il_types.specs.Names.{FindAlike};
 ghost use Rattle.il_types.specs.Redeclaration.{IsFirstRedeclaration};
+ghost use Rattle.call_names.specs.Sorted.{AreAllSorted};
 ghost use Rattle.call_names.specs.Gathered.{clash_in, calls_behind, redeclared_at};
 
 use crate::clash::clash;
 use crate::gathering::outlines_of;
 use crate::outline::Outline;
-use il_core::{Code, Form, Name, NoMemory, Refusal, Stmt};
+use crate::sorted::all_sorted;
+use il_core::{Code, Form, List, Name, NoMemory, Refusal, Stmt};
 use il_types::{Counts, Names, Redeclaration, Setting, counts_before, naming, refusal_of};
 use std::alloc::Global;
 
@@ -23,6 +24,7 @@ use std::alloc::Global;
 fn clash_in(
     alloc: Global,
     outlines: &[Outline],
+    own: &[List<Name>],
     setting: &Setting<'_>,
     owner: usize,
     calls: usize,
@@ -30,11 +32,12 @@ fn clash_in(
 ) -> Result<Option<Name>, NoMemory>
     requires owner { owner ≡ setting.now.owner }
     requires inside { owner < length outlines.now }
+    requires own { AreAllSorted outlines.now own.now }
     requires room { calls + 1 < 2 ^ 64 }
     ensures { IfOk result (λ o. (procs : List WrittenProcedure) → AreOutlined procs (take (owner - 1) (drop 1 outlines.now)) → o ≡ clash_in procs outlines.now setting.now calls (statement_of form.now)) }
 {
     match form {
-        Form::Call(name, _) => clash(alloc, outlines, setting, owner, calls, name),
+        Form::Call(name, _) => clash(alloc, outlines, own, setting, owner, calls, name),
         _ => Ok(None),
     }
 }
@@ -64,8 +67,9 @@ fn redeclared_at(redeclaration: &Option<Redeclaration>, at: usize) -> Option<Nam
 /// The refusal of a text with calls by its names (`Code::Twice`, with the name), or `None` exactly where none is declared twice: the first
 /// statement that declares a name that is taken, or that CALLs an earlier procedure of which a place's new name is a variable of the
 /// caller. Given is the first statement of the former kind, with the name; the declarations given may leave out those of a name that its
-/// scope has already. An error comes where memory runs out. No call is expanded: each CALL is compared with all variables of its
-/// procedure, and the search goes on only where some of their names begin as the new names do, so no deeper than these have bytes.
+/// scope has already. An error comes where memory runs out. No call is expanded. The names of each procedure are sorted once, and a
+/// CALL looks among them by binary search: where none begins as its new names do it costs the logarithm of their number; else those that do
+/// are compared with the variables and calls of the procedure called, and deeper only as far as some of them go on.
 pub fn first_twice(
     alloc: Global,
     names: &Names,
@@ -79,6 +83,7 @@ pub fn first_twice(
     ensures { IfOk result (λ o. (links : List Link) → IsRefused (twice_at (map placed stmts.now) links) (map placed stmts.now) o) }
 {
     let outlines = outlines_of(alloc, names, before, stmts)?;
+    let own = all_sorted(alloc, outlines.as_slice())?;
     let mut calls = 0;
     for (i, stmt) in stmts.iter().enumerate() {
         let owner = counts_before(before, stmts, i).procedures;
@@ -86,6 +91,7 @@ pub fn first_twice(
         match clash_in(
             alloc,
             outlines.as_slice(),
+            own.as_slice(),
             &setting,
             owner,
             calls,

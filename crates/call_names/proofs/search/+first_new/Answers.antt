@@ -1,10 +1,12 @@
-use Rattle.std.proofs.Common.{◌≡◌, ◌∙◌, sym, ap, ◌+◌, [], take}
+use Rattle.std.proofs.Common.{◌≡◌, ◌∙◌, sym, ap, subst, refl, ◌+◌, [], length, take, rules}
 use Rattle.std.specs.Prelude.{Some, find, slice_get}
 use Rattle.std.proofs.lemmas.Bool.{eqb-true}
 use Rattle.std.proofs.lemmas.Option.{slice_get-get_or}
 use Rattle.std.proofs.lemmas.Result.{IfOk-weaker}
-use Rattle.call_names.specs.Search.{is_among}
+use Rattle.call_names.specs.Search.{is_among, begins_with}
+use Rattle.call_names.specs.Sorted.{AreInOrder}
 use Rattle.call_names.proofs.Brought.{called_names}
+use Rattle.call_names.proofs.InOrder.{kept_in_order}
 use Rattle.call_names.proofs.Parts.{outlined_before}
 use Rattle.call_names.proofs.Steps.{none_there, found_variable, found_called, found_copy, none_begin, call_passed, call_found, calls_end, read_variables, read_copies, read_calls, kept_those, none_left}
 use Rattle.call_names.proofs.search.+first_new.Goals as goal
@@ -18,9 +20,9 @@ returns-then-is_empty t c =
     let there : slice_get c.args.outlines.now c.args.number ≡ Some o =
     slice_get-get_or c.args.outlines.now c.args.number o c.in-Some.ensures.lookup.3.0 ∙ ap Some (sym c.in-Some.ensures.lookup.1) in
     let stem = c.in_ok-stem.stem.items in
-    let those = c.in_ok-those.those.items in
-    let are = kept_those c.args.front.now c.args.call c.args.sought.now c.as_slice.result.now stem those c.in_ok-stem.ensures c.as_slice.ensures.value c.in_ok-those.ensures in
-    let none : those ≡ [] = none_left those (sym c.in_ok-those.those.ok.0 ∙ eqb-true c.in_ok-those.those.len 0 (sym c.if-is_empty.ensures)) in
+    let those = c.all_beginning_with-those.result.now in
+    let are = kept_those c.args.front.now c.args.call c.args.sought.now c.as_slice.result.now stem those c.in_ok-stem.ensures c.as_slice.ensures.value c.all_beginning_with-those.ensures in
+    let none : those ≡ [] = none_left those (eqb-true (length those) 0 (sym c.if-is_empty.ensures)) in
     IfOk-weaker c.first_copy.result _ _ (λ found e procs h.
     read_copies found c.args.front.now c.args.call c.args.sought.now c.as_slice-variables.result.now o.variables c.as_slice-variables.ensures e
     ∙ sym (none_begin procs c.args.outlines.now c.args.number o c.args.front.now c.args.call c.args.sought.now stem those h there are none))
@@ -32,12 +34,15 @@ returns-in-Some-first_variable t c = λ procs h.
     let there : slice_get c.args.outlines.now c.args.number ≡ Some o =
     slice_get-get_or c.args.outlines.now c.args.number o c.in-Some.ensures.lookup.3.0 ∙ ap Some (sym c.in-Some.ensures.lookup.1) in
     let stem = c.in_ok-stem.stem.items in
-    let those = c.in_ok-those.those.items in
-    let are = kept_those c.args.front.now c.args.call c.args.sought.now c.as_slice.result.now stem those c.in_ok-stem.ensures c.as_slice.ensures.value c.in_ok-those.ensures in
-    let found = read_variables c.first_variable.result c.as_slice-2.result.now stem c.as_slice-3.result.now those c.as_slice-variables.result.now o.variables
-    c.as_slice-2.ensures.value c.as_slice-3.ensures.value c.as_slice-variables.ensures c.first_variable.ensures in
+    let those = c.all_beginning_with-those.result.now in
+    let are = kept_those c.args.front.now c.args.call c.args.sought.now c.as_slice.result.now stem those c.in_ok-stem.ensures c.as_slice.ensures.value c.all_beginning_with-those.ensures in
+    let found = read_variables c.first_variable.result c.as_slice-2.result.now stem those those c.as_slice-variables.result.now o.variables
+    c.as_slice-2.ensures.value refl c.as_slice-variables.ensures c.first_variable.ensures in
     sym (found_variable procs c.args.outlines.now c.args.number o c.args.front.now c.args.call c.args.sought.now stem those h there are c.in-Some-first_variable.name
     (found ∙ c.in-Some-first_variable.is))
+
+pub first_new-requires : goal.first_new-requires
+first_new-requires t c = (search rules, subst AreInOrder (sym c.all_beginning_with-those.ensures) (kept_in_order (begins_with c.as_slice.result.now) c.args.sought.now c.requires))
 
 pub returns-in-Some-2 : goal.returns-in-Some-2
 returns-in-Some-2 t c = λ procs h.
@@ -46,15 +51,15 @@ returns-in-Some-2 t c = λ procs h.
     let k = c.loop-k.k in
     let there : slice_get c.args.outlines.now n ≡ Some o = slice_get-get_or c.args.outlines.now n o c.in-Some.ensures.lookup.3.0 ∙ ap Some (sym c.in-Some.ensures.lookup.1) in
     let stem = c.in_ok-stem.stem.items in
-    let those = c.in_ok-those.those.items in
-    let are = kept_those c.args.front.now c.args.call c.args.sought.now c.as_slice.result.now stem those c.in_ok-stem.ensures c.as_slice.ensures.value c.in_ok-those.ensures in
-    let none = read_variables c.first_variable.result c.as_slice-2.result.now stem c.as_slice-3.result.now those c.as_slice-variables.result.now o.variables
-    c.as_slice-2.ensures.value c.as_slice-3.ensures.value c.as_slice-variables.ensures c.first_variable.ensures ∙ c.in-None-first_variable.is in
+    let those = c.all_beginning_with-those.result.now in
+    let are = kept_those c.args.front.now c.args.call c.args.sought.now c.as_slice.result.now stem those c.in_ok-stem.ensures c.as_slice.ensures.value c.all_beginning_with-those.ensures in
+    let none = read_variables c.first_variable.result c.as_slice-2.result.now stem those those c.as_slice-variables.result.now o.variables
+    c.as_slice-2.ensures.value refl c.as_slice-variables.ensures c.first_variable.ensures ∙ c.in-None-first_variable.is in
     let before = take n procs in
     let outlined = outlined_before procs c.args.outlines.now n h in
     let calls = c.as_slice-callee-items.result.now in
-    let here = read_calls c.in_ok-name.field-0 before c.as_slice-in-loop-k.result.now stem c.as_slice-in-loop-k-2.result.now those (k + 1) _
-    c.as_slice-in-loop-k.ensures.value c.as_slice-in-loop-k-2.ensures.value (c.in_ok-name.ensures before outlined) in
+    let here = read_calls c.in_ok-name.field-0 before c.as_slice-in-loop-k.result.now stem those those (k + 1) _
+    c.as_slice-in-loop-k.ensures.value refl (c.in_ok-name.ensures before outlined) in
     let all = sym (c.loop-k.invariant before outlined) ∙ call_found before stem those calls k c.loop-k-test.true c.in-Some-2.name (here ∙ c.in-Some-2.is) in
     sym (found_called procs c.args.outlines.now n o c.args.front.now c.args.call c.args.sought.now stem those h there are c.in-Some-2.name none
     (ap (λ cs. find (is_among those) (called_names before stem 1 cs)) (sym c.as_slice-callee-items.ensures) ∙ all))
@@ -63,10 +68,10 @@ pub loop-k-preserved : goal.loop-k-preserved
 loop-k-preserved t c = λ before outlined.
     let k = c.loop-k.k in
     let stem = c.in_ok-stem.stem.items in
-    let those = c.in_ok-those.those.items in
+    let those = c.all_beginning_with-those.result.now in
     let calls = c.as_slice-callee-items.result.now in
-    let here = read_calls c.in_ok-name.field-0 before c.as_slice-in-loop-k.result.now stem c.as_slice-in-loop-k-2.result.now those (k + 1) _
-    c.as_slice-in-loop-k.ensures.value c.as_slice-in-loop-k-2.ensures.value (c.in_ok-name.ensures before outlined) in
+    let here = read_calls c.in_ok-name.field-0 before c.as_slice-in-loop-k.result.now stem those those (k + 1) _
+    c.as_slice-in-loop-k.ensures.value refl (c.in_ok-name.ensures before outlined) in
     call_passed before stem those calls k c.loop-k-test.true (here ∙ c.in-None-2.is) ∙ c.loop-k.invariant before outlined
 
 pub returns : goal.returns
@@ -75,10 +80,10 @@ returns t c =
     let n = c.args.number in
     let there : slice_get c.args.outlines.now n ≡ Some o = slice_get-get_or c.args.outlines.now n o c.in-Some.ensures.lookup.3.0 ∙ ap Some (sym c.in-Some.ensures.lookup.1) in
     let stem = c.in_ok-stem.stem.items in
-    let those = c.in_ok-those.those.items in
-    let are = kept_those c.args.front.now c.args.call c.args.sought.now c.as_slice.result.now stem those c.in_ok-stem.ensures c.as_slice.ensures.value c.in_ok-those.ensures in
-    let none = read_variables c.first_variable.result c.as_slice-2.result.now stem c.as_slice-3.result.now those c.as_slice-variables.result.now o.variables
-    c.as_slice-2.ensures.value c.as_slice-3.ensures.value c.as_slice-variables.ensures c.first_variable.ensures ∙ c.in-None-first_variable.is in
+    let those = c.all_beginning_with-those.result.now in
+    let are = kept_those c.args.front.now c.args.call c.args.sought.now c.as_slice.result.now stem those c.in_ok-stem.ensures c.as_slice.ensures.value c.all_beginning_with-those.ensures in
+    let none = read_variables c.first_variable.result c.as_slice-2.result.now stem those those c.as_slice-variables.result.now o.variables
+    c.as_slice-2.ensures.value refl c.as_slice-variables.ensures c.first_variable.ensures ∙ c.in-None-first_variable.is in
     let calls = c.as_slice-callee-items.result.now in
     IfOk-weaker c.first_copy-2.result _ _ (λ found e procs h.
     let before = take n procs in

@@ -10,5 +10,5 @@ abbrev pub decreases-first_new : goal.decreases-first_new
 decreases-first_new l = length l.outlines.now
 
 abbrev pub invariant-loop-k : goal.invariant-loop-k
-invariant-loop-k l = (before : List WrittenProcedure) → AreOutlined before l.before → find (is_among l.those.items) (called_names before l.stem.items (l.k + 1) (drop l.k l.callee-items))
-    ≡ find (is_among l.those.items) (called_names before l.stem.items 1 l.callee-items)
+invariant-loop-k l = (before : List WrittenProcedure) → AreOutlined before l.before → find (is_among l.those) (called_names before l.stem.items (l.k + 1) (drop l.k l.callee-items))
+    ≡ find (is_among l.those) (called_names before l.stem.items 1 l.callee-items)
