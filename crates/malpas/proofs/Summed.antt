@@ -65,11 +65,11 @@ part n old new settled_old settled_new before now t report status ends four =
     ]
 
 -- With status 0 no procedure has a bad run.
-clean : (n : ℕ) (old new : Option (List ℕ)) (settled_old settled_new : Option ℕ) (before now : ℕ) (x : WholeExpansion) (report : Report) (status : ℕ)
+clean : (n : ℕ) (old new : Option (List ℕ)) (settled_old settled_new : Option ℕ) (before now : ℕ) (x : WholeExpansion) (report : Report) (status : ℕ) → length x.spans ≡ length x.text.procs
     → Summarises n old new settled_old settled_new before now x.text (Some report) status → IsTold [] x report → status ≡ 0 → NoProcedureHasABadRun x.text
-clean n old new settled_old settled_new before now x report status ends told zero =
+clean n old new settled_old settled_new before now x report status spans ends told zero =
     elim ends [
-      | inl done ↦ no_bad_run [] x report (told_all [] x report (omega (arith, done.whole)) told) told.1.certified (sym done.is ∙ zero)
+      | inl done ↦ no_bad_run [] x report (told_all [] x report (omega (arith, done.whole)) spans told) told.1.certified (sym done.is ∙ zero)
       | inr rest ↦ elim rest [ inl cut ↦ absurd (omega (arith, cut.is, zero)) | inr short ↦ absurd (omega (arith, short.is, zero)) ]
     ]
 
@@ -78,11 +78,11 @@ made_input : (n : ℕ) (x : WholeExpansion) → length (made_text n) ≤ text_li
 made_input n x short accepted = record { short = short; mark = None; cut = refl; text = accepted; read = refl }
 
 -- What is told of the first procedures of the made text is what the report says of it.
-pub made_reported : (n : ℕ) (old new : Option (List ℕ)) (settled_old settled_new : Option ℕ) (before now : ℕ) (x : WholeExpansion) (report : Option Report) (status : ℕ)
+pub made_reported : (n : ℕ) (old new : Option (List ℕ)) (settled_old settled_new : Option ℕ) (before now : ℕ) (x : WholeExpansion) (report : Option Report) (status : ℕ) → length x.spans ≡ length x.text.procs
     → length (made_text n) ≤ text_limit → Accepts (made_text n) x → IfSome report (λ r. IsTold [] x r × (0 < length r.procs))
     → Summarises n old new settled_old settled_new before now x.text report status → IfSome report (IsMadeReported n old new status)
-made_reported n old new settled_old settled_new before now x None status short accepted told ends = tt
-made_reported n old new settled_old settled_new before now x (Some report) status short accepted told ends = (
+made_reported n old new settled_old settled_new before now x None status spans short accepted told ends = tt
+made_reported n old new settled_old settled_new before now x (Some report) status spans short accepted told ends = (
   x,
   [],
   refl,
@@ -96,7 +96,7 @@ made_reported n old new settled_old settled_new before now x (Some report) statu
       one_row = told.0.1.one_row;
       safe = told.0.1.safe;
       certified = told.0.1.certified;
-      clean = clean n old new settled_old settled_new before now x report status ends told.0;
+      clean = clean n old new settled_old settled_new before now x report status spans ends told.0;
       equal_values = told.0.1.equal_values;
     },
     part n old new settled_old settled_new before now x.text report status ends,

@@ -106,8 +106,8 @@ abbrev pub IsReadUp : Option ℕ → Option (List ℕ) → Type 0
 IsReadUp None left = IsAtEnd left
 IsReadUp (Some n) left = Unit {0}
 
--- The report says so of one text, the expansion of the input's that is asked for, which is read to its end where it is not made, and of its certificates;
--- and where the sink failed, what it holds has grown by a prefix of what is due to that text and the report.
+-- The report says so of one text's expansion, that of the input that is asked for, which is read to its end where it is not made, and of its
+-- certificates; and where the sink failed, what it holds has grown by a prefix of what is due to that text and the report.
 abbrev pub IsReported : Option ℕ → Selection → Option (List ℕ) → Option (List ℕ) → Option (List ℕ) → Option (List ℕ) → ℕ → Report → Type 0
 IsReported made sections left_old left_new held_old held_new status report = IsReadUp made left_new
     × OfInput (reads_certificates made sections) (input_asked made left_old) (λ x certs.

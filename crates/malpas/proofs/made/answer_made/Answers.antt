@@ -2,12 +2,13 @@ use Rattle.il_inline.specs.Expanded.{whole_of}
 use Rattle.std.proofs.Common.{Some, ap, ◌∙◌}
 use Rattle.il_core.specs.declared.refusal.Refusal.{Refusal}
 use Rattle.made_text.proofs.Counted.{is_short}
+use Rattle.malpas.proofs.Outcomes.{has_spans}
 use Rattle.malpas.proofs.Summed.{made_reported, belongs, refused_belongs}
 use Rattle.malpas.proofs.made.answer_made.Goals as goal
 
 pub returns-in-Ok-clause-headline : goal.returns-in-Ok-clause-headline
 returns-in-Ok-clause-headline g c =
-    made_reported c.args.number _ _ _ _ _ _ (whole_of c.in-Ok.text) c.summarise.result.report c.summarise.result.status (is_short c.args.number c.requires.1) c.in-Ok.ensures.0
+    made_reported c.args.number _ _ _ _ _ _ (whole_of c.in-Ok.text) c.summarise.result.report c.summarise.result.status (has_spans c.in-Ok.text c.in-Ok.ensures.1) (is_short c.args.number c.requires.1) c.in-Ok.ensures.0
     c.summarise.ensures.told_of c.summarise.ensures.written
 
 pub returns-in-Ok-clause-complete : goal.returns-in-Ok-clause-complete
