@@ -11,6 +11,7 @@ use Rattle.il_core.specs.Text.{Text, TextProcedure, text_procedure, text_of}
 use Rattle.il_core.specs.declared.certificate.NamedCert.{NamedCert}
 use Rattle.il_core.specs.declared.refusal.Code.TheVariants.{BadCertificate}
 use Rattle.il_core.specs.declared.refusal.Refusal.{Refusal}
+use Rattle.il_inline.specs.Expanded.{WholeExpansion}
 use Rattle.malpas.specs.Input.{names_in, text_before, IsCut, HasCertificates, HasBadCertificate, AcceptsInput, RefusesParts, RefusesInput, OneInput}
 
 pub names_all : (t : NamedText) (names : List (List ℕ)) → names ≡ map (λ p. p.name) t.procs → names ≡ names_in (text_of t)
@@ -51,36 +52,36 @@ one_bad once t (Some place) input a b x y =
     let same = once.one_place (names_in t) (drop (place + 3) input) x.place y.place x.bad y.bad in
     x.is ∙ ap (bad_at (place + 3)) same ∙ sym y.is
 
--- a text has one checked text
-one_text : OneAnswer → (text : List ℕ) (a b : Text) → Accepts text a → Accepts text b → a ≡ b
-one_text once text a b x y = let same : ◌≡◌ {A = Result Text Refusal} (Ok a) (Ok b) = once text (Ok a) (Ok b) x y in cc
+-- a text has one expansion
+one_text : OneAnswer → (text : List ℕ) (a b : WholeExpansion) → Accepts text a → Accepts text b → a ≡ b
+one_text once text a b x y = let same : ◌≡◌ {A = Result WholeExpansion Refusal} (Ok a) (Ok b) = once text (Ok a) (Ok b) x y in cc
 
 one_refusal : OneAnswer → (text : List ℕ) (a b : Refusal) → HasRefusal text a → HasRefusal text b → a ≡ b
-one_refusal once text a b x y = let same : ◌≡◌ {A = Result Text Refusal} (Err a) (Err b) = once text (Err a) (Err b) x y in cc
+one_refusal once text a b x y = let same : ◌≡◌ {A = Result WholeExpansion Refusal} (Err a) (Err b) = once text (Err a) (Err b) x y in cc
 
-text_or_refusal : OneAnswer → (text : List ℕ) (a : Text) (b : Refusal) → Accepts text a → HasRefusal text b → ⊥
-text_or_refusal once text a b x y = let same : ◌≡◌ {A = Result Text Refusal} (Ok a) (Err b) = once text (Ok a) (Err b) x y in absurd (cc)
+text_or_refusal : OneAnswer → (text : List ℕ) (a : WholeExpansion) (b : Refusal) → Accepts text a → HasRefusal text b → ⊥
+text_or_refusal once text a b x y = let same : ◌≡◌ {A = Result WholeExpansion Refusal} (Ok a) (Err b) = once text (Ok a) (Err b) x y in absurd (cc)
 
 -- of an input that is cut at one place
-accepted_twice : OneAnswer → OneReading → (certificates : Bool) (input : List ℕ) (s t : Text) (a b : List NamedCert) → AcceptsInput certificates input s a → AcceptsInput certificates input t b
+accepted_twice : OneAnswer → OneReading → (certificates : Bool) (input : List ℕ) (s t : WholeExpansion) (a b : List NamedCert) → AcceptsInput certificates input s a → AcceptsInput certificates input t b
     → (s ≡ t) × (map named_of a ≡ map named_of b)
 accepted_twice text_once certs_once certificates input s t a b x y =
     let cut : x.mark ≡ y.mark = one_cut certificates input x.mark y.mark x.cut y.cut in
     let text : s ≡ t = one_text text_once (text_before y.mark input) s t (subst (λ m. Accepts (text_before m input) s) cut x.text) y.text in
-    let read : HasCertificates t y.mark input a = subst (λ m. HasCertificates t m input a) cut (subst (λ u. HasCertificates u x.mark input a) text x.read) in
-    (text, one_list certs_once t y.mark input a b read y.read)
+    let read : HasCertificates t.text y.mark input a = subst (λ m. HasCertificates t.text m input a) cut (subst (λ (u : WholeExpansion). HasCertificates u.text x.mark input a) text x.read) in
+    (text, one_list certs_once t.text y.mark input a b read y.read)
 
-accepted_or_refused : OneAnswer → (certificates : Bool) (input : List ℕ) (t : Text) (certs : List NamedCert) (refusal : Refusal) → AcceptsInput certificates input t certs
+accepted_or_refused : OneAnswer → (certificates : Bool) (input : List ℕ) (t : WholeExpansion) (certs : List NamedCert) (refusal : Refusal) → AcceptsInput certificates input t certs
     → RefusesParts certificates input refusal → ⊥
 accepted_or_refused text_once certificates input t certs refusal x y =
     let cut : x.mark ≡ y.mark = one_cut certificates input x.mark y.mark x.cut y.cut in
     let accepted : Accepts (text_before y.mark input) t = subst (λ m. Accepts (text_before m input) t) cut x.text in
-    let read : HasCertificates t y.mark input certs = subst (λ m. HasCertificates t m input certs) cut x.read in
+    let read : HasCertificates t.text y.mark input certs = subst (λ m. HasCertificates t.text m input certs) cut x.read in
     elim y.first [
       | inl refused ↦ text_or_refusal text_once (text_before y.mark input) t refusal accepted refused
       | inr bad ↦
           let same : t ≡ bad.0 = one_text text_once (text_before y.mark input) t bad.0 accepted bad.1 in
-          read_or_bad bad.0 y.mark input certs refusal (subst (λ u. HasCertificates u y.mark input certs) same read) bad.2
+          read_or_bad bad.0.text y.mark input certs refusal (subst (λ (u : WholeExpansion). HasCertificates u.text y.mark input certs) same read) bad.2
     ]
 
 refused_twice : OneAnswer → OneReading → (certificates : Bool) (input : List ℕ) (a b : Refusal) → RefusesParts certificates input a → RefusesParts certificates input b → a ≡ b
@@ -89,7 +90,7 @@ refused_twice text_once certs_once certificates input a b x y =
     by (subst (λ m. Refuses m a) cut x.first) y.first
   where
     Refuses : Option ℕ → Refusal → Type 0
-    Refuses m r = HasRefusal (text_before m input) r ⊎ ((t : Text) × Accepts (text_before m input) t × HasBadCertificate t m input r)
+    Refuses m r = HasRefusal (text_before m input) r ⊎ ((t : WholeExpansion) × Accepts (text_before m input) t × HasBadCertificate t.text m input r)
 
     by : Refuses y.mark a → Refuses y.mark b → a ≡ b
     by (inl v) (inl w) = one_refusal text_once (text_before y.mark input) a b v w
@@ -97,7 +98,7 @@ refused_twice text_once certs_once certificates input a b x y =
     by (inr v) (inl w) = absurd (text_or_refusal text_once (text_before y.mark input) v.0 b v.1 w)
     by (inr v) (inr w) =
         let same : v.0 ≡ w.0 = one_text text_once (text_before y.mark input) v.0 w.0 v.1 w.1 in
-        one_bad certs_once w.0 y.mark input a b (subst (λ t. HasBadCertificate t y.mark input a) same v.2) w.2
+        one_bad certs_once w.0.text y.mark input a b (subst (λ (t : WholeExpansion). HasBadCertificate t.text y.mark input a) same v.2) w.2
 
 pub one_input : OneAnswer → OneReading → OneInput
 one_input text_once certs_once certificates input (Ok a) (Ok b) x y =

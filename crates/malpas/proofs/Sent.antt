@@ -5,9 +5,9 @@ use Rattle.std.proofs.lemmas.Bool.Decides.{nat_tests}
 use Rattle.std.proofs.lemmas.Grind.{flat_map-append}
 use Rattle.std.proofs.lemmas.List.{length_push, take_at, drop_at, drop_more, drop_all, length-append}
 use Rattle.std.proofs.lemmas.Option.{slice_get_cases, slice_get_within, get_or_from_slice_get}
-use Rattle.il_core.specs.Text.{Text}
 use Rattle.il_core.specs.declared.certificate.NamedCert.{NamedCert}
 use Rattle.il_edge.specs.Faults.{Rose}
+use Rattle.il_inline.specs.Expanded.{WholeExpansion}
 use Rattle.il_edge.specs.Known.{SameTold, Appends, AppendsPrefix, IsSettled}
 use Rattle.report.specs.declared.report.ProcReport.{ProcReport}
 use Rattle.report.specs.declared.report.Report.{Report}
@@ -156,8 +156,8 @@ parts_before sections report some =
     ]
 
 -- After the parts of the first procedures of a text: they are written and settled, and the faults have not fallen.
-pub record AreSoFar (sections : Selection) (old now : Option (List ℕ)) (settled : Option ℕ) (faults_old faults_now : ℕ) (certs : List NamedCert) (t : Text) (count : ℕ) (report : Report) : Type 0 where
-  pub told_of : IsTold certs t report
+pub record AreSoFar (sections : Selection) (old now : Option (List ℕ)) (settled : Option ℕ) (faults_old faults_now : ℕ) (certs : List NamedCert) (x : WholeExpansion) (count : ℕ) (report : Report) : Type 0 where
+  pub told_of : IsTold certs x report
   pub made : length report.procs ≡ count
   pub sent : AreSent sections old now settled report
   pub told : SameTold old now

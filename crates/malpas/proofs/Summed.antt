@@ -4,6 +4,7 @@ use Rattle.il_core.specs.declared.refusal.Refusal.{Refusal}
 use Rattle.il_edge.specs.Faults.{Rose}
 use Rattle.std.specs.Bool.{then_some}
 use Rattle.il_core.specs.Text.{Text}
+use Rattle.il_inline.specs.Expanded.{WholeExpansion}
 use Rattle.il_edge.specs.Known.{AppendsPrefix}
 use Rattle.acceptance.specs.Acceptance.{Accepts, HasRefusal}
 use Rattle.made_text.specs.Made.{made_text}
@@ -64,41 +65,41 @@ part n old new settled_old settled_new before now t report status ends four =
     ]
 
 -- With status 0 no procedure has a bad run.
-clean : (n : ℕ) (old new : Option (List ℕ)) (settled_old settled_new : Option ℕ) (before now : ℕ) (t : Text) (report : Report) (status : ℕ)
-    → Summarises n old new settled_old settled_new before now t (Some report) status → IsTold [] t report → status ≡ 0 → NoProcedureHasABadRun t
-clean n old new settled_old settled_new before now t report status ends told zero =
+clean : (n : ℕ) (old new : Option (List ℕ)) (settled_old settled_new : Option ℕ) (before now : ℕ) (x : WholeExpansion) (report : Report) (status : ℕ) → length x.spans ≡ length x.text.procs
+    → Summarises n old new settled_old settled_new before now x.text (Some report) status → IsTold [] x report → status ≡ 0 → NoProcedureHasABadRun x.text
+clean n old new settled_old settled_new before now x report status spans ends told zero =
     elim ends [
-      | inl done ↦ no_bad_run [] t report (told_all [] t report (omega (arith, done.whole)) told) told.1.certified (sym done.is ∙ zero)
+      | inl done ↦ no_bad_run [] x report (told_all [] x report (omega (arith, done.whole)) spans told) told.1.certified (sym done.is ∙ zero)
       | inr rest ↦ elim rest [ inl cut ↦ absurd (omega (arith, cut.is, zero)) | inr short ↦ absurd (omega (arith, short.is, zero)) ]
     ]
 
 -- A made text is an input without certificates.
-made_input : (n : ℕ) (t : Text) → length (made_text n) ≤ text_limit → Accepts (made_text n) t → AcceptsInput false (made_text n) t []
-made_input n t short accepted = record { short = short; mark = None; cut = refl; text = accepted; read = refl }
+made_input : (n : ℕ) (x : WholeExpansion) → length (made_text n) ≤ text_limit → Accepts (made_text n) x → AcceptsInput false (made_text n) x []
+made_input n x short accepted = record { short = short; mark = None; cut = refl; text = accepted; read = refl }
 
 -- What is told of the first procedures of the made text is what the report says of it.
-pub made_reported : (n : ℕ) (old new : Option (List ℕ)) (settled_old settled_new : Option ℕ) (before now : ℕ) (t : Text) (report : Option Report) (status : ℕ)
-    → length (made_text n) ≤ text_limit → Accepts (made_text n) t → IfSome report (λ r. IsTold [] t r × (0 < length r.procs))
-    → Summarises n old new settled_old settled_new before now t report status → IfSome report (IsMadeReported n old new status)
-made_reported n old new settled_old settled_new before now t None status short accepted told ends = tt
-made_reported n old new settled_old settled_new before now t (Some report) status short accepted told ends = (
-  t,
+pub made_reported : (n : ℕ) (old new : Option (List ℕ)) (settled_old settled_new : Option ℕ) (before now : ℕ) (x : WholeExpansion) (report : Option Report) (status : ℕ) → length x.spans ≡ length x.text.procs
+    → length (made_text n) ≤ text_limit → Accepts (made_text n) x → IfSome report (λ r. IsTold [] x r × (0 < length r.procs))
+    → Summarises n old new settled_old settled_new before now x.text report status → IfSome report (IsMadeReported n old new status)
+made_reported n old new settled_old settled_new before now x None status spans short accepted told ends = tt
+made_reported n old new settled_old settled_new before now x (Some report) status spans short accepted told ends = (
+  x,
   [],
   refl,
-  made_input n t short accepted,
+  made_input n x short accepted,
   (
     record {
       reported = told.0.0;
       some = told.1;
-      whole = whole n old new settled_old settled_new before now t report status ends;
-      fewer = fewer n old new settled_old settled_new before now t report status ends;
+      whole = whole n old new settled_old settled_new before now x.text report status ends;
+      fewer = fewer n old new settled_old settled_new before now x.text report status ends;
       one_row = told.0.1.one_row;
       safe = told.0.1.safe;
       certified = told.0.1.certified;
-      clean = clean n old new settled_old settled_new before now t report status ends told.0;
+      clean = clean n old new settled_old settled_new before now x report status spans ends told.0;
       equal_values = told.0.1.equal_values;
     },
-    part n old new settled_old settled_new before now t report status ends,
+    part n old new settled_old settled_new before now x.text report status ends,
   ),
 )
 
@@ -109,13 +110,13 @@ not_silent n old new settled_old settled_new before now t None status ends four 
 not_silent n old new settled_old settled_new before now t (Some report) status ends four none = cc
 
 -- Where the sink did not fail, what is answered belongs to the made text, or memory ran out.
-pub belongs : (n : ℕ) (old new : Option (List ℕ)) (settled_old settled_new : Option ℕ) (before now : ℕ) (t : Text) (refusal : Option Refusal) (report : Option Report) (status : ℕ)
-    → refusal ≡ None → length (made_text n) ≤ text_limit → Accepts (made_text n) t → IfSome report (λ r. IsTold [] t r × (0 < length r.procs))
-    → Summarises n old new settled_old settled_new before now t report status → (Rose before now → ⊥) → (status ≡ 5) ⊎ BelongsTo false (made_text n) refusal report status
-belongs n old new settled_old settled_new before now t refusal None status none short accepted told ends calm = inl ends
-belongs n old new settled_old settled_new before now t refusal (Some report) status none short accepted told ends calm =
+pub belongs : (n : ℕ) (old new : Option (List ℕ)) (settled_old settled_new : Option ℕ) (before now : ℕ) (x : WholeExpansion) (refusal : Option Refusal) (report : Option Report) (status : ℕ)
+    → refusal ≡ None → length (made_text n) ≤ text_limit → Accepts (made_text n) x → IfSome report (λ r. IsTold [] x r × (0 < length r.procs))
+    → Summarises n old new settled_old settled_new before now x.text report status → (Rose before now → ⊥) → (status ≡ 5) ⊎ BelongsTo false (made_text n) refusal report status
+belongs n old new settled_old settled_new before now x refusal None status none short accepted told ends calm = inl ends
+belongs n old new settled_old settled_new before now x refusal (Some report) status none short accepted told ends calm =
     elim ends [
-      | inl done ↦ inr (subst (λ (r : Option Refusal). BelongsTo false (made_text n) r (Some report) status) (sym none) (done.is, (t, [], made_input n t short accepted, told.0.0, done.whole)))
+      | inl done ↦ inr (subst (λ (r : Option Refusal). BelongsTo false (made_text n) r (Some report) status) (sym none) (done.is, (x, [], made_input n x short accepted, told.0.0, done.whole)))
       | inr rest ↦ elim rest [ inl cut ↦ absurd (calm cut.rose) | inr short_of ↦ inl short_of.is ]
     ]
 

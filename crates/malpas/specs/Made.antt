@@ -38,4 +38,4 @@ Summarises n old new settled_old settled_new before now t (Some report) status =
 -- What the report of a made text says, and what is written where the sink failed.
 abbrev pub IsMadeReported : ℕ → Option (List ℕ) → Option (List ℕ) → ℕ → Report → Type 0
 IsMadeReported n held_old held_new status report =
-    OfInput false (Some (made_text n)) (λ t certs. Tells t certs report status × (status ≡ 4 → AppendsPrefix held_old held_new (summary_text n report)))
+    OfInput false (Some (made_text n)) (λ x certs. Tells x certs report status × (status ≡ 4 → AppendsPrefix held_old held_new (summary_text n report)))

@@ -4,6 +4,7 @@ use Rattle.std.specs.Prelude.{◌≡◌, ℕ, ◌<◌, ◌≤◌, ◌⊎◌, ◌
 use Rattle.il_core.specs.Text.{Text}
 use Rattle.il_core.specs.declared.certificate.NamedCert.{NamedCert}
 use Rattle.il_core.specs.declared.refusal.Refusal.{Refusal}
+use Rattle.il_inline.specs.Expanded.{WholeExpansion}
 use Rattle.il_edge.specs.Known.{IsAtEnd, TookMore, Appends, AppendsPrefix, IsSettled}
 use Rattle.made_text.specs.Made.{made_text}
 use Rattle.report.specs.declared.report.Report.{Report}
@@ -69,11 +70,11 @@ IsSilent report status = (status ≡ 3) ⊎ ((status ≡ 5) × (report ≡ None)
 abbrev pub IsForWords : Outcome → Type 0
 IsForWords outcome = (outcome.status ≡ 6) ⊎ ((outcome.status ≡ 4) × (outcome.refusal ≡ None) × (outcome.report ≡ None))
 
--- An input, where its bytes are told, is accepted, and its checked text and its certificates have this property; there are no certificates
+-- An input, where its bytes are told, is accepted, and its expanded text and its certificates have this property; there are no certificates
 -- where they are not asked for.
-abbrev pub OfInput : Bool → Option (List ℕ) → (Text → List NamedCert → Type 0) → Type 0
+abbrev pub OfInput : Bool → Option (List ℕ) → (WholeExpansion → List NamedCert → Type 0) → Type 0
 OfInput certificates input Has =
-    (t : Text) × (certs : List NamedCert) × NoneUnasked certificates certs × IfSome input (λ bytes. AcceptsInput certificates bytes t certs) × Has t certs
+    (x : WholeExpansion) × (certs : List NamedCert) × NoneUnasked certificates certs × IfSome input (λ bytes. AcceptsInput certificates bytes x certs) × Has x certs
 
 -- A report has all procedures of a text.
 abbrev pub HasAll : Report → Text → Type 0
@@ -83,34 +84,34 @@ HasAll report t = length report.procs ≡ length t.procs
 abbrev pub HasFewer : Report → Text → Type 0
 HasFewer report t = length report.procs < length t.procs
 
--- What a report that was written for a text and certificates says: it is that of the text's first procedures, at least one, with a row for each
--- certificate that names one of them, of all of them where it was written whole, and not of all where memory ran out. Each table of a region
--- within its size has exactly one row for each input of the region, and stepping the lines from the input gives the row's stop and values. Where
--- a reducible procedure has every table within its size and every threat refuted, or refuted or certified by a row that holds, no run from the
--- precondition faults, fails an assertion or ends outside the postcondition; with status 0 this is so of each procedure of the text. Ending runs
--- that agree on a variable's reported sources give it equal values.
-pub record Tells (t : Text) (certs : List NamedCert) (report : Report) (status : ℕ) : Type 0 where
-  pub reported : IsReportOfFront certs t report
+-- What a report that was written for a text and certificates says of the text's expansion, whose procedures have no calls: it is the report of its
+-- first procedures, at least one, with a row for each certificate that names one of them, of all of them where it was written whole, and not of all
+-- where memory ran out. Each table of a region within its size has exactly one row for each input of the region, and stepping the lines from the
+-- input gives the row's stop and values. Where a reducible procedure has every table within its size and every threat refuted, or refuted or
+-- certified by a row that holds, no run from the precondition faults, fails an assertion or ends outside the postcondition; with status 0 this is
+-- so of each procedure. Ending runs that agree on a variable's reported sources give it equal values.
+pub record Tells (x : WholeExpansion) (certs : List NamedCert) (report : Report) (status : ℕ) : Type 0 where
+  pub reported : IsReportOfFront certs x report
   pub some : 0 < length report.procs
-  pub whole : status ≤ 1 → HasAll report t
-  pub fewer : status ≡ 5 → HasFewer report t
-  pub one_row : TablesHaveOneRowPerInput t report
-  pub safe : CleanProceduresHaveNoBadRun t report
-  pub certified : SettledProceduresHaveNoBadRun t report
-  pub clean : status ≡ 0 → NoProcedureHasABadRun t
-  pub equal_values : EndingRunsHaveEqualValues t report
+  pub whole : status ≤ 1 → HasAll report x.text
+  pub fewer : status ≡ 5 → HasFewer report x.text
+  pub one_row : TablesHaveOneRowPerInput x.text report
+  pub safe : CleanProceduresHaveNoBadRun x.text report
+  pub certified : SettledProceduresHaveNoBadRun x.text report
+  pub clean : status ≡ 0 → NoProcedureHasABadRun x.text
+  pub equal_values : EndingRunsHaveEqualValues x.text report
 
 -- A source is read to its end, unless the text is made.
 abbrev pub IsReadUp : Option ℕ → Option (List ℕ) → Type 0
 IsReadUp None left = IsAtEnd left
 IsReadUp (Some n) left = Unit {0}
 
--- The report says so of one text, that of the input that is asked for, which is read to its end where it is not made, and of its certificates;
--- and where the sink failed, what it holds has grown by a prefix of what is due to that text and the report.
+-- The report says so of one text's expansion, that of the input that is asked for, which is read to its end where it is not made, and of its
+-- certificates; and where the sink failed, what it holds has grown by a prefix of what is due to that text and the report.
 abbrev pub IsReported : Option ℕ → Selection → Option (List ℕ) → Option (List ℕ) → Option (List ℕ) → Option (List ℕ) → ℕ → Report → Type 0
 IsReported made sections left_old left_new held_old held_new status report = IsReadUp made left_new
-    × OfInput (reads_certificates made sections) (input_asked made left_old) (λ t certs.
-    Tells t certs report status × (status ≡ 4 → AppendsPrefix held_old held_new (due_text made sections t report)))
+    × OfInput (reads_certificates made sections) (input_asked made left_old) (λ x certs.
+    Tells x certs report status × (status ≡ 4 → AppendsPrefix held_old held_new (due_text made sections x.text report)))
 
 -- Where memory ran out, what the sink holds has grown by the parts of the report, and all of it is settled; by nothing where the text is made.
 abbrev pub IsCutShort : Option ℕ → Selection → Option (List ℕ) → Option (List ℕ) → Option ℕ → Option ℕ → Report → Type 0
@@ -133,6 +134,6 @@ IsRefused (Some n) sections old new refusal = HasRefusal (made_text n) refusal
 abbrev pub BelongsTo : Bool → List ℕ → Option Refusal → Option Report → ℕ → Type 0
 BelongsTo certificates input None None status = ⊥
 BelongsTo certificates input None (Some report) status = (status ≡ status_of report)
-    × ((t : Text) × (certs : List NamedCert) × AcceptsInput certificates input t certs × IsReportOfFront certs t report × HasAll report t)
+    × ((x : WholeExpansion) × (certs : List NamedCert) × AcceptsInput certificates input x certs × IsReportOfFront certs x report × HasAll report x.text)
 BelongsTo certificates input (Some refusal) None status = (status ≡ 2) × RefusesInput certificates input refusal
 BelongsTo certificates input (Some refusal) (Some report) status = ⊥

@@ -5,13 +5,14 @@ ghost use Rattle.malpas.specs.Input.{text_limit, text_before, names_in, IsCut, I
 use acceptance::{accept, one_answer};
 use cert_text::{MARK_LEN, cut, one_reading, read_certs};
 use il_core::{CheckedText, List, Name, NamedCert, NoMemory, TextEnd};
+use il_inline::Expanded;
 use std::alloc::Global;
 
 /// What an accepted input holds.
 #[derive(Drop)]
 pub(crate) struct Input {
-    /// Its text.
-    pub(crate) text: CheckedText,
+    /// Its text, with each call expanded.
+    pub(crate) text: Expanded,
     /// The certificates behind the text.
     pub(crate) certs: List<NamedCert>,
 }
@@ -68,7 +69,8 @@ fn certs_behind(
     read_certs(alloc, &input[offset..], offset, names.as_slice())
 }
 
-/// What an input holds: its text and, where they are asked for, the certificates behind it; or its first refusal.
+/// What an input holds: its expanded text and, where they are asked for, the certificates behind it; or its first
+/// refusal.
 pub(crate) fn read_input(alloc: Global, input: &[u8], certificates: bool) -> Result<Input, TextEnd>
     requires { length input.now ≤ text_limit }
     ensures { InputGives certificates input.now result }
@@ -76,15 +78,15 @@ pub(crate) fn read_input(alloc: Global, input: &[u8], certificates: bool) -> Res
     let mark = mark_of(input, certificates);
     match accept(alloc, text_before(mark, input)) {
         Err(end) => Err(end),
-        Ok(text) => match certs_behind(alloc, &text, mark, input) {
+        Ok(text) => match certs_behind(alloc, &text.text, mark, input) {
             Err(end) => Err(end),
             Ok(certs) => Ok(Input { text, certs }),
         },
     }
 }
 
-/// No input has two answers: no two texts or lists of certificates, no text and a refusal, no two refusals. This law
-/// costs nothing.
+/// No input has two answers: no two expanded texts or lists of certificates, no text and a refusal, no two refusals.
+/// This law costs nothing.
 pub(crate) fn one_input()
     ensures { OneInput }
 {

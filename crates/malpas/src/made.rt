@@ -3,6 +3,7 @@ ghost use Rattle.il_core.specs.Text.{text_of};
 ghost use Rattle.il_edge.specs.Faults.{Rose};
 ghost use Rattle.il_edge.specs.Known.{SameTold, Appends, AppendsPrefix, IsSettled};
 ghost use Rattle.acceptance.specs.Acceptance.{AcceptGives, HasRefusal};
+ghost use Rattle.il_inline.specs.Expanded.{IsExpandedText, whole_of};
 ghost use Rattle.made_text.specs.Made.{made_text};
 ghost use Rattle.report.specs.Headline.{IsTold};
 ghost use Rattle.report.specs.Status.{status_of};
@@ -14,16 +15,17 @@ ghost use Rattle.malpas.specs.Top.{HasStatus, line_text, IsWritten, IsForWords, 
 use crate::answer::{refuse, settle, silent};
 use crate::top::Outcome;
 use acceptance::accept;
-use il_core::{CheckedText, List, NoMemory, TextEnd};
+use il_core::{List, NoMemory, TextEnd};
 use il_edge::Sink;
+use il_inline::Expanded;
 use made_text::make_text;
 use malpas_suite::analyse_proc;
 use report::{Report, status_of};
 use std::alloc::Global;
 use summary_text::put_summary;
 
-/// The checked text of the made text of a number.
-fn accept_made(alloc: Global, number: u8) -> Result<CheckedText, TextEnd>
+/// The expansion of the made text of a number.
+fn accept_made(alloc: Global, number: u8) -> Result<Expanded, TextEnd>
     requires { (1 ≤ number) × (number ≤ 200) }
     ensures { AcceptGives (made_text number) result }
 {
@@ -34,15 +36,16 @@ fn accept_made(alloc: Global, number: u8) -> Result<CheckedText, TextEnd>
 }
 
 /// Makes the report of each procedure of a text, and adds it to `report`, which has none.
-fn make_parts(alloc: Global, text: &CheckedText, report: &mut Report) -> Result<(), NoMemory>
-    requires title { report.old.title ≡ text.now.title }
-    requires profile { report.old.profile ≡ text.now.profile }
+fn make_parts(alloc: Global, text: &Expanded, report: &mut Report) -> Result<(), NoMemory>
+    requires fits { IsExpandedText text.now }
+    requires title { report.old.title ≡ text.now.text.title }
+    requires profile { report.old.profile ≡ text.now.text.profile }
     requires none { report.old.procs ≡ [] }
-    ensures told_of { IsTold [] (text_of text.now) report.new }
-    ensures made { MatchResult result (λ _. length report.new.procs ≡ length text.now.procs) (λ _. length report.new.procs < length text.now.procs) }
+    ensures told_of { IsTold [] (whole_of text.now) report.new }
+    ensures made { MatchResult result (λ _. length report.new.procs ≡ length text.now.text.procs) (λ _. length report.new.procs < length text.now.text.procs) }
 {
-    for proc in text.procs().as_slice() {
-        let part = match analyse_proc(alloc, proc, &[]) {
+    for number in 0..text.text.procs().len() {
+        let part = match analyse_proc(alloc, text, number, &[]) {
             Ok(part) => part,
             Err(NoMemory) => return Err(NoMemory),
         };
@@ -68,18 +71,19 @@ fn write_summary<K: Sink>(number: u8, report: &Report, sink: &mut K) -> u8
 }
 
 /// Makes the report of a made text, and then writes its summary.
-fn summarise<K: Sink>(alloc: Global, number: u8, text: &CheckedText, sink: &mut K) -> Outcome
+fn summarise<K: Sink>(alloc: Global, number: u8, text: &Expanded, sink: &mut K) -> Outcome
+    requires { IsExpandedText text.now }
     ensures refusal { result.refusal ≡ None }
-    ensures told_of { IfSome result.report (λ report. IsTold [] (text_of text.now) report × (0 < length report.procs)) }
+    ensures told_of { IfSome result.report (λ report. IsTold [] (whole_of text.now) report × (0 < length report.procs)) }
     ensures written { Summarises number (K.held sink.old) (K.held sink.new) (K.settled sink.old) (K.settled sink.new)
-        (K.faults sink.old) (K.faults sink.new) (text_of text.now) result.report result.status }
+        (K.faults sink.old) (K.faults sink.new) (text_of text.now.text) result.report result.status }
     ensures untouched { result.status ≡ 5 → sink.new ≡ sink.old }
     ensures told { SameTold (K.held sink.old) (K.held sink.new) }
     ensures later { K.faults sink.old ≤ K.faults sink.new }
 {
     let mut report = Report {
-        profile: text.profile(),
-        title: text.title(),
+        profile: text.text.profile(),
+        title: text.text.title(),
         procs: List::new(alloc),
     };
     let status = match make_parts(alloc, text, &mut report) {

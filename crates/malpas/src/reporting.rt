@@ -1,5 +1,6 @@
 ghost use Rattle.std.specs.Prelude.{◌≡◌, ◌<◌, ◌≤◌, [], None, length, IfSome};
 ghost use Rattle.il_core.specs.Text.{text_of};
+ghost use Rattle.il_inline.specs.Expanded.{IsExpandedText, whole_of};
 ghost use Rattle.il_edge.specs.Faults.{HasCause};
 ghost use Rattle.il_edge.specs.Known.{SameTold};
 ghost use Rattle.form_text.specs.Pieces.{Writes};
@@ -83,19 +84,20 @@ fn write_parts<K: Sink>(
     report: &mut Report,
     sink: &mut K,
 ) -> Result<(), PartsEnd>
-    requires title { report.old.title ≡ input.now.text.title }
-    requires profile { report.old.profile ≡ input.now.text.profile }
+    requires fits { IsExpandedText input.now.text }
+    requires title { report.old.title ≡ input.now.text.text.title }
+    requires profile { report.old.profile ≡ input.now.text.text.profile }
     requires none { report.old.procs ≡ [] }
-    ensures told_of { IsTold input.now.certs (text_of input.now.text) report.new }
+    ensures told_of { IsTold input.now.certs (whole_of input.now.text) report.new }
     ensures sent { SendsParts selection (K.held sink.old) (K.held sink.new) (K.settled sink.new)
-        (K.faults sink.old) (K.faults sink.new) (length input.now.text.procs) report.new result }
+        (K.faults sink.old) (K.faults sink.new) (length input.now.text.text.procs) report.new result }
     ensures untouched { report.new.procs ≡ [] → sink.new ≡ sink.old }
     ensures told { SameTold (K.held sink.old) (K.held sink.new) }
     ensures later { K.faults sink.old ≤ K.faults sink.new }
 {
     let certs = input.certs.as_slice();
-    for proc in input.text.procs().as_slice() {
-        let part = match analyse_proc(alloc, proc, certs) {
+    for number in 0..input.text.text.procs().len() {
+        let part = match analyse_proc(alloc, &input.text, number, certs) {
             Ok(part) => part,
             Err(NoMemory) => return Err(PartsEnd::NoMemory),
         };
@@ -131,17 +133,18 @@ pub(crate) fn report_on<K: Sink>(
     selection: Selection,
     sink: &mut K,
 ) -> Outcome
+    requires { IsExpandedText input.now.text }
     ensures refusal { result.refusal ≡ None }
-    ensures told_of { IfSome result.report (λ report. IsTold input.now.certs (text_of input.now.text) report × (0 < length report.procs)) }
+    ensures told_of { IfSome result.report (λ report. IsTold input.now.certs (whole_of input.now.text) report × (0 < length report.procs)) }
     ensures written { Reports selection (K.held sink.old) (K.held sink.new) (K.settled sink.new)
-        (K.faults sink.old) (K.faults sink.new) (text_of input.now.text) result.report result.status }
+        (K.faults sink.old) (K.faults sink.new) (text_of input.now.text.text) result.report result.status }
     ensures untouched { result.report ≡ None → sink.new ≡ sink.old }
     ensures told { SameTold (K.held sink.old) (K.held sink.new) }
     ensures later { K.faults sink.old ≤ K.faults sink.new }
 {
     let mut report = Report {
-        profile: input.text.profile(),
-        title: input.text.title(),
+        profile: input.text.text.profile(),
+        title: input.text.text.title(),
         procs: List::new(alloc),
     };
     let status = match write_parts(alloc, input, selection, &mut report, sink) {

@@ -16,10 +16,10 @@ use std::alloc::Global;
 /// What the program did.
 #[derive(Drop)]
 pub struct Outcome {
-    /// 0 where the report was written and is clean: every procedure is reducible, no table is past its size, every threat
-    /// is refuted or a certificate that was read holds for it, and every certificate that was read holds. 1 where it was
-    /// written and is not clean, 2 where the input was refused, 3 where the source failed, 4 where the sink failed, 5
-    /// where memory ran out, 6 where the words are not understood.
+    /// 0 where the report was written and is clean: every procedure, with its calls expanded, is reducible, no table is
+    /// past its size, every threat is refuted or a certificate that was read holds for it, and every certificate that was
+    /// read holds. 1 where it was written and is not clean, 2 where the input was refused, 3 where the source failed, 4
+    /// where the sink failed, 5 where memory ran out, 6 where the words are not understood.
     pub status: u8,
     /// The refusal, with status 2, and with 4 where the input was refused.
     pub refusal: Option<Refusal>,
@@ -31,14 +31,15 @@ pub struct Outcome {
 /// line. Without a number it reads the input of `source` to its end. Where the section of certificates is selected, the
 /// input is cut at its first line that is exactly `%%`: what stands before that line is the text, what stands behind it
 /// are certificates for threats of its procedures. Otherwise, and where there is no such line, all of it is the text. It
-/// accepts the input, or finds the first refusal of the text or else of the certificates, which it writes to `sink`. Of
-/// an accepted input it makes the report of each procedure in order, and writes the selected sections of its part before
-/// it makes the next; the line with the status comes last. It flushes behind each part and behind each
-/// line that stands alone. With a number it reads nothing, makes the text of the number and its whole report, and then
-/// writes the summary and flushes. The status is that of the whole report, whatever is selected. The first step that does
-/// not succeed decides the answer, and a report keeps the procedures that were made before. The cost is that of accepting
-/// the text, of analysing its procedures and of checking the certificates, besides reading and writing, which are linear
-/// in their bytes.
+/// accepts the input, or finds the first refusal of the text or else of the certificates, which it writes to `sink`. The
+/// calls of an accepted text are expanded in place. It makes the report of each procedure, so expanded, in order, and writes
+/// the selected sections of its part before it makes the next; the line with the status comes last. What is said of lines
+/// and runs is said of the expanded procedures; `il_runs::expanded_runs_alike` carries it to the procedures as they are
+/// written. It flushes behind each part and behind each line that stands alone. With a number it reads nothing, makes the
+/// text of the number and its whole report, and then writes the summary and flushes. The status is that of the whole
+/// report, whatever is selected. The first step that does not succeed decides the answer, and a report keeps the
+/// procedures that were made before. The cost is that of accepting the text, of analysing its expanded procedures and of
+/// checking the certificates, besides reading and writing, which are linear in their bytes.
 pub fn malpas<S: Source, K: Sink>(
     alloc: Global,
     words: &[String],

@@ -1,10 +1,10 @@
 -- What is found of the bytes of a source, and how it is answered.
 use Rattle.std.specs.Prelude.{◌≡◌, ℕ, ◌≤◌, ◌⊎◌, List, length, take, Option, None, Some, IfSome, Result, MatchResult}
-use Rattle.il_core.specs.Text.{Text}
 use Rattle.il_core.specs.declared.refusal.Refusal.{Refusal}
 use Rattle.il_core.specs.declared.refusal.Code.TheVariants as code
 use Rattle.il_edge.specs.Faults.{Rose}
 use Rattle.il_edge.specs.Known.{IsAtEnd, TookMore, Appends, AppendsPrefix, IsSettled}
+use Rattle.il_inline.specs.Expanded.{WholeExpansion}
 use Rattle.acceptance.specs.Acceptance.{Accepts, HasRefusal}
 use Rattle.cert_text.specs.Mark.{IsFirstMark}
 use Rattle.report_text.specs.Refusal.{refusal_text}
@@ -30,9 +30,9 @@ before (Some place) input = take place input
 abbrev pub IsTextOf : List ℕ → List ℕ → Type 0
 IsTextOf input text = (mark : Option ℕ) × IsFirstMark input mark × (text ≡ before mark input)
 
--- what is found of a text: the threats of its procedures where it is accepted, and else its refusal
+-- what is found of a text: the threats of its expanded procedures where it is accepted, and else its refusal
 abbrev pub FindsIn : List ℕ → Found → Type 0
-FindsIn text (found.Threats all) = (t : Text) × Accepts text t × AreThreatened t.procs all
+FindsIn text (found.Threats all) = (x : WholeExpansion) × Accepts text x × AreThreatened x.text.procs all
 FindsIn text (found.Refused refusal) = HasRefusal text refusal
 FindsIn text found.ReadFault = ⊥
 FindsIn text found.NoMemory = Unit {0}

@@ -1,6 +1,6 @@
 //! From the bytes of a source to the threats of its text.
 ghost use Rattle.std.specs.Prelude.{◌≡◌, ◌≤◌, ℕ, List, length};
-ghost use Rattle.il_core.specs.Text.{text_of};
+ghost use Rattle.il_inline.specs.Expanded.{whole_of};
 ghost use Rattle.acceptance.specs.Acceptance.{Accepts};
 ghost use Rattle.il_edge.specs.Known.{SameTold, Took};
 ghost use Rattle.malpas_literals.specs.Answer.{text_limit, too_long, IsTextOf, FindsIn, Finds};
@@ -8,8 +8,9 @@ ghost use Rattle.malpas_literals.specs.Answer.{text_limit, too_long, IsTextOf, F
 use crate::threats::{Threatened, all_threatened};
 use acceptance::accept;
 use cert_text::cut;
-use il_core::{CheckedText, Code, List, NoMemory, Refusal, TextEnd};
+use il_core::{Code, List, NoMemory, Refusal, TextEnd};
 use il_edge::{ReadEnd, Source, read_all};
+use il_inline::Expanded;
 use std::alloc::Global;
 
 /// The greatest number of bytes of an input.
@@ -18,7 +19,7 @@ const TEXT_LIMIT: usize = 1_048_576;
 /// What is found of an input.
 #[derive(Drop)]
 pub enum Found {
-    /// Its text is accepted: the procedures with their threats.
+    /// Its text is accepted: the procedures, with each call expanded, and their threats.
     Threats(List<Threatened>),
     /// It is refused.
     Refused(Refusal),
@@ -51,10 +52,10 @@ fn text_of_input(input: &[u8]) -> &[u8]
 }
 
 /// What is found of an accepted text.
-fn find_threats(alloc: Global, text: &CheckedText) -> Found
-    ensures { (bytes : List ℕ) → Accepts bytes (text_of text.now) → FindsIn bytes result }
+fn find_threats(alloc: Global, text: &Expanded) -> Found
+    ensures { (bytes : List ℕ) → Accepts bytes (whole_of text.now) → FindsIn bytes result }
 {
-    match all_threatened(alloc, text) {
+    match all_threatened(alloc, &text.text) {
         Ok(all) => Found::Threats(all),
         Err(NoMemory) => Found::NoMemory,
     }
@@ -66,7 +67,7 @@ fn find_in_text(alloc: Global, text: &[u8]) -> Found
     ensures { FindsIn text.now result }
 {
     match accept(alloc, text) {
-        Ok(checked) => find_threats(alloc, &checked),
+        Ok(expanded) => find_threats(alloc, &expanded),
         Err(TextEnd::Refused(refusal)) => Found::Refused(refusal),
         Err(TextEnd::NoMemory) => Found::NoMemory,
     }

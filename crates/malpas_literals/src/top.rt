@@ -18,10 +18,10 @@ pub struct Outcome {
 }
 
 /// All that the program does. It reads the input of `source` to its end, takes what stands before its first line `%%` as
-/// the text, and accepts it or finds its first refusal, whose line it writes to `sink`. Of an accepted text it finds the
-/// threats of each procedure, and then writes the listing: each procedure with its places, and of each open threat the
-/// number, the region and the literals. It flushes once, behind all. The cost is that of accepting the text and of
-/// finding its threats, besides reading and writing, which are linear in their bytes.
+/// the text, and accepts it or finds its first refusal, whose line it writes to `sink`. The calls of an accepted text are
+/// expanded. It finds the threats of each procedure, so expanded, and then writes the listing: each procedure with its
+/// places, and of each open threat the number, the region and the literals. It flushes once, behind all. The cost is that
+/// of accepting the text and of finding its threats, besides reading and writing, which are linear in their bytes.
 pub fn list_literals<S: Source, K: Sink>(alloc: Global, source: &mut S, sink: &mut K) -> Outcome
     ensures found { Finds (S.left source.old) (S.left source.new) (S.faults source.old) (S.faults source.new) result.found }
     ensures sent { AnswersBy (K.held sink.old) (K.held sink.new) (K.settled sink.old) (K.settled sink.new)

@@ -1,19 +1,20 @@
-use Rattle.il_core.specs.Text.{text_of}
+use Rattle.il_inline.specs.Expanded.{whole_of}
 use Rattle.std.proofs.Common.{Some, ap, ◌∙◌}
 use Rattle.il_core.specs.declared.refusal.Refusal.{Refusal}
 use Rattle.made_text.proofs.Counted.{is_short}
+use Rattle.malpas.proofs.Outcomes.{has_spans}
 use Rattle.malpas.proofs.Summed.{made_reported, belongs, refused_belongs}
 use Rattle.malpas.proofs.made.answer_made.Goals as goal
 
 pub returns-in-Ok-clause-headline : goal.returns-in-Ok-clause-headline
 returns-in-Ok-clause-headline g c =
-    made_reported c.args.number _ _ _ _ _ _ (text_of c.in-Ok.text) c.summarise.result.report c.summarise.result.status (is_short c.args.number c.requires.1) c.in-Ok.ensures
+    made_reported c.args.number _ _ _ _ _ _ (whole_of c.in-Ok.text) c.summarise.result.report c.summarise.result.status (has_spans c.in-Ok.text c.in-Ok.ensures.1) (is_short c.args.number c.requires.1) c.in-Ok.ensures.0
     c.summarise.ensures.told_of c.summarise.ensures.written
 
 pub returns-in-Ok-clause-complete : goal.returns-in-Ok-clause-complete
 returns-in-Ok-clause-complete g c = λ calm.
-    belongs c.args.number _ _ _ _ _ _ (text_of c.in-Ok.text) c.summarise.result.refusal c.summarise.result.report c.summarise.result.status c.summarise.ensures.refusal
-    (is_short c.args.number c.requires.1) c.in-Ok.ensures c.summarise.ensures.told_of c.summarise.ensures.written calm
+    belongs c.args.number _ _ _ _ _ _ (whole_of c.in-Ok.text) c.summarise.result.refusal c.summarise.result.report c.summarise.result.status c.summarise.ensures.refusal
+    (is_short c.args.number c.requires.1) c.in-Ok.ensures.0 c.summarise.ensures.told_of c.summarise.ensures.written calm
 
 pub returns-in-Err-Refused-clause-complete : goal.returns-in-Err-Refused-clause-complete
 returns-in-Err-Refused-clause-complete g c = λ calm.

@@ -8,8 +8,8 @@ use Rattle.malpas.proofs.made.summarise.Goals.{in-Ok, in-Err}
 
 pub returns-clause-written : goal.returns-clause-written
 returns-clause-written g c =
-    let text = text_of c.args.text.now in
-    let same = length-map c.args.text.now.procs text_procedure in
+    let text = text_of c.args.text.now.text in
+    let same = length-map c.args.text.now.text.procs text_procedure in
     let report = c.make_parts.new.report in
     let gives = c.then_some.ensures in
     let empty = c.is_empty-reported.ensures in

@@ -7,8 +7,8 @@ use Rattle.malpas.proofs.reporting.report_on.Goals.{in-Ok, in-Err-Failed, in-Err
 
 pub returns-clause-written : goal.returns-clause-written
 returns-clause-written g c =
-    let text = text_of c.args.input.now.text in
-    let same = length-map c.args.input.now.text.procs text_procedure in
+    let text = text_of c.args.input.now.text.text in
+    let same = length-map c.args.input.now.text.text.procs text_procedure in
     let report = c.write_parts.new.report in
     let gives = c.then_some.ensures in
     let empty = c.is_empty-reported.ensures in
