@@ -7,3 +7,4 @@ pub mod Inputs
 pub mod Certificates
 pub mod Report
 pub mod Refusal
+pub mod Calls

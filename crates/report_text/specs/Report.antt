@@ -5,6 +5,7 @@ use Rattle.report.specs.Status.{status_of}
 use Rattle.report.specs.declared.report.ProcReport.{ProcReport}
 use Rattle.report.specs.declared.report.Report.{Report}
 use Rattle.request.specs.declared.selection.Selection.{Selection}
+use Rattle.report_text.specs.Calls.{calls_text}
 use Rattle.report_text.specs.Certificates.{certificates_text}
 use Rattle.report_text.specs.Sections.{control_text, usage_text, flows_text, paths_text}
 use Rattle.report_text.specs.Inputs.{inputs_text}
@@ -52,9 +53,13 @@ certificates_section p = elim p.analyses [ None ↦ codes "CERTIFICATES\n" ++ no
 unfoldable pub title_text : ProcReport → List ℕ
 title_text p = codes "PROCEDURE " ++ p.name ++ codes " LINES " ++ decimal p.lines ++ codes "\n"
 
--- the line of a procedure, and what is selected of the sections on its lines and its graph
+-- the line of a procedure, and a line for each of its calls
+unfoldable pub heading_text : ProcReport → List ℕ
+heading_text p = title_text p ++ calls_text p.calls
+
+-- these lines, and what is selected of the sections on its lines and its graph
 unfoldable pub graph_text : Selection → ProcReport → List ℕ
-graph_text selection p = title_text p ++ chosen selection.control (control_text p.control p.derivation) ++ chosen selection.usage (usage_section p)
+graph_text selection p = heading_text p ++ chosen selection.control (control_text p.control p.derivation) ++ chosen selection.usage (usage_section p)
     ++ chosen selection.flow (flow_section p) ++ chosen selection.slice (slice_section p) ++ chosen selection.paths (paths_section p)
 
 -- what is selected of the sections on its values

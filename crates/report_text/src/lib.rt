@@ -1,6 +1,6 @@
 //! The text of what the suite answers. The text of a report is a head, a part for each procedure and an end, which is a
 //! line with the status: [`put_head`], [`put_part`] and [`put_end`] write them, and [`put`] writes them all. A part has
-//! the sections that are selected: the control structure with the reduction by intervals, the use of variables, the flow
+//! its name and its calls, and the sections that are selected: the control structure with the reduction by intervals, the use of variables, the flow
 //! of information, the slices, the paths, the tables of the regions, the test inputs of their rows, the threats with
 //! their verdicts, and the certificates. [`put_refusal`] writes the one line of a refused text, and [`put_words`] the one
 //! line that answers words that are not understood. Each text is a definition of its own, a list of bytes made of pieces:
@@ -10,6 +10,7 @@
 //! text.
 #![tactic(auto)]
 
+mod calls;
 mod cert_lines;
 mod certificates;
 mod control;

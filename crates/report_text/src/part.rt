@@ -2,9 +2,10 @@ ghost use Rattle.std.specs.Prelude.{◌≡◌};
 ghost use Rattle.il_edge.specs.Faults.{HasCause};
 ghost use Rattle.il_edge.specs.Known.{SameTold};
 ghost use Rattle.form_text.specs.Pieces.{Puts, Writes};
-ghost use Rattle.report_text.specs.Report.{certificates_section, chosen, compliance_section, flow_section, graph_text, inputs_section, part_text, paths_section, semantic_section, slice_section, title_text, usage_section, values_text};
+ghost use Rattle.report_text.specs.Report.{certificates_section, chosen, compliance_section, flow_section, graph_text, heading_text, inputs_section, part_text, paths_section, semantic_section, slice_section, title_text, usage_section, values_text};
 ghost use Rattle.report_text.specs.Sections.{control_text};
 
+use crate::calls::put_calls;
 use crate::control::put_control;
 use crate::sections::{
     put_certificates_section, put_compliance_section, put_flow_section, put_inputs_section,
@@ -31,6 +32,15 @@ fn put_title<K: Sink>(part: &ProcReport, sink: &mut K) -> Result<(), Failed>
             b"\n",
         ],
     )
+}
+
+/// Writes the line of a procedure, and a line for each of its calls.
+#[tactic(auto, unfolding(crate::specs::Report::heading_text))]
+fn put_heading<K: Sink>(part: &ProcReport, sink: &mut K) -> Result<(), Failed>
+    ensures { Puts K.held K.settled K.faults sink.old sink.new result (heading_text part.now) }
+{
+    put_title(part, sink)?;
+    put_calls(part.calls.as_slice(), sink)
 }
 
 fn put_chosen_control<K: Sink>(
@@ -143,7 +153,7 @@ fn put_chosen_certificates<K: Sink>(
 fn put_graph<K: Sink>(part: &ProcReport, selection: Selection, sink: &mut K) -> Result<(), Failed>
     ensures { Puts K.held K.settled K.faults sink.old sink.new result (graph_text selection part.now) }
 {
-    put_title(part, sink)?;
+    put_heading(part, sink)?;
     put_chosen_control(selection.control, part, sink)?;
     put_chosen_usage(selection.usage, part, sink)?;
     put_chosen_flow(selection.flow, part, sink)?;
@@ -161,7 +171,7 @@ fn put_values<K: Sink>(part: &ProcReport, selection: Selection, sink: &mut K) ->
     put_chosen_certificates(selection.certificates, part, sink)
 }
 
-/// Writes the part of a procedure: its line, and behind it the sections that are selected, in their order. For an
+/// Writes the part of a procedure: its line, a line for each of its calls, and behind them the sections that are selected, in their order. For an
 /// irreducible procedure one line stands in place of each section but the first. `Failed` comes only where the sink's
 /// count of faults rose in this call, and then a prefix of the part was written. It takes no memory, leaves what is
 /// settled as it was, and costs time linear in what the report tells and in the text.
