@@ -1,7 +1,7 @@
 -- First declarations: each name is found as among all declarations.
 use Rattle.std.proofs.Common.{◌≡◌, ℕ, suc, ◌+◌, ◌<◌, ◌≤◌, ◌∙◌, sym, ap, subst, refl, Bool, true, false, ◌&&◌, cond, List, [], ◌∷◌, ◌++◌, length, take, get_or, arith, nat_eq, append_assoc}
-use Rattle.std.specs.Prelude.{Option, Some, None}
-use Rattle.std.specs.Cmp.Lexicographic.{pointwise, same_text}
+use Rattle.std.specs.Prelude.{Option, Some, None, is_some}
+use Rattle.std.specs.Cmp.Lexicographic.{same_text}
 use Rattle.std.specs.Map.{lookup}
 use Rattle.std.specs.Option.{option_or}
 use Rattle.std.proofs.lemmas.List.{take_more, length-take-le}
@@ -31,6 +31,15 @@ lookup_either k (x ∷ a) b = by (same_key k x.0) (lookup_either k a b)
         → cond t (Some x.1) (lookup (same_key k) (a ++ b)) ≡ option_or (cond t (Some x.1) (lookup (same_key k) a)) (lookup (same_key k) b)
     by true h = refl
     by false h = h
+
+-- nothing is found, or something
+pub absent : (o : Option Spot) → is_some o ≡ false → o ≡ None
+absent None e = refl
+absent (Some s) e = cc
+
+pub present : (o : Option Spot) → is_some o ≡ true → (s : Spot) × (o ≡ Some s)
+present None e = absurd (cc)
+present (Some s) e = (s, refl)
 
 -- a declaration goes last
 pub pushed : (before table es : Table) → FindAlike before table → FindAlike (before ++ es) (table ++ es)

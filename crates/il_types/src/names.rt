@@ -286,9 +286,15 @@ pub fn first_declared(alloc: Global, stmts: &[Stmt]) -> Result<FirstDeclarations
     ensures first { IfOk result (λ d. IsFirstRedeclaration (map placed stmts.now) d.redeclaration) }
     ensures whole { IfOk result (λ d. d.redeclaration ≡ None → d.names ≡ (front_of (map placed stmts.now)).table) }
 {
-    let declared = declare_until(alloc, stmts)?;
-    match declared.redeclaration {
-        None => Ok(declared),
+    let FirstDeclarations {
+        names,
+        redeclaration,
+    } = declare_until(alloc, stmts)?;
+    match redeclaration {
+        None => Ok(FirstDeclarations {
+            names,
+            redeclaration: None,
+        }),
         Some(redeclaration) => Ok(FirstDeclarations {
             names: first_names(alloc, stmts)?,
             redeclaration: Some(redeclaration),
@@ -301,9 +307,12 @@ pub fn first_declared(alloc: Global, stmts: &[Stmt]) -> Result<FirstDeclarations
 pub fn declare_all(alloc: Global, stmts: &[Stmt]) -> Result<Names, TextEnd>
     ensures { Declares (map placed stmts.now) result }
 {
-    let declared = declare_until(alloc, stmts)?;
-    match declared.redeclaration {
-        None => Ok(declared.names),
+    let FirstDeclarations {
+        names,
+        redeclaration,
+    } = declare_until(alloc, stmts)?;
+    match redeclaration {
+        None => Ok(names),
         Some(redeclaration) => Err(TextEnd::Refused(Refusal {
             code: Code::Twice,
             place: stmts[redeclaration.at].place,
