@@ -69,13 +69,6 @@ goes_new m now after k v e a none table h =
     let is : after ≡ now ++ (k, v) ∷ [] = a ∙ insert_entry-new same_key m k v free ∙ ap (λ x. x ++ (k, v) ∷ []) (sym e) in
     subst (λ t. FindAlike t (table ++ (k, v) ∷ [])) (sym is) (pushed now table ((k, v) ∷ []) h)
 
-pub goes_nowhere : (before : Table) → GoesOn before before []
-goes_nowhere before table h k = h k ∙ sym (lookup_either k table [] ∙ nothing (lookup (same_key k) table))
-  where
-    nothing : (o : Option Spot) → option_or o None ≡ o
-    nothing None = refl
-    nothing (Some s) = refl
-
 -- one after the other
 pub goes_further : (before now after es fs : Table) → GoesOn before now es → GoesOn now after fs → GoesOn before after (es ++ fs)
 goes_further before now after es fs f g table h =

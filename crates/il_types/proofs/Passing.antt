@@ -77,6 +77,7 @@ stands pass stmts i f e = elim (cases_lt i (length stmts)) [
       absurd (cc)
 ]
 
+-- the first fault of a pass, by what the pass finds at its statement
 pub first_there : (pass : ℕ → Statement → Option Found) (stmts : List Stmt) (i : ℕ) (stmt : Stmt) (r : Refusal) → i < length stmts → stmt ≡ get_or stmts i stmt
     → ((k : ℕ) → k < i → at_stmt pass (map placed stmts) k ≡ None) → at_stmt pass (map placed stmts) i ≡ Some (record { code = r.code; name = r.name })
     → r.place ≡ stmt.place → ComesFirst pass (map placed stmts) r

@@ -1,8 +1,8 @@
-ghost use Rattle.std.specs.Prelude.{◌≡◌, ◌<◌, ◌++◌, ◌∷◌, [], not, map, Some, None, IfOk, OnErr, if◌then◌else◌};
+ghost use Rattle.std.specs.Prelude.{◌≡◌, ◌++◌, ◌∷◌, [], map, Some, None, IfOk, if◌then◌else◌};
 ghost use Rattle.std.specs.Map.{lookup};
 ghost use Rattle.std.specs.Option.{option_or};
 ghost use Rattle.il_core.specs.Statement.{statement_of, placed};
-ghost use Rattle.il_types.specs.Names.{same_key, is_taken, earlier, of_procedure, first_taken, entries_from, entries, front_of, IsDeclared, FindAlike, GoesOn};
+ghost use Rattle.il_types.specs.Names.{same_key, is_taken, earlier, of_procedure, entries_from, entries, front_of, IsDeclared, FindAlike, GoesOn};
 ghost use Rattle.il_types.specs.Redeclaration.{IsFirstRedeclaration};
 ghost use Rattle.il_types.specs.Rules.{Declares};
 

@@ -18,7 +18,7 @@ returns-in-Some c =
     record {
       first = (
         ap (option_and_then (λ (y : Placed). twice (map placed stmts) c.loop-i.i y.says)) (here stmts c.loop-i.i x c.loop-i-test.true c.index-stmts-i.is)
-        ∙ found ∙ ap (option_map (naming code.Twice)) some,
+            ∙ found ∙ ap (option_map (naming code.Twice)) some,
         c.loop-i.invariant.before,
       );
       whole = λ none. let clash : Some (record { at = c.loop-i.i; name = c.in-Some.name }) ≡ None = none in cc;
