@@ -1,7 +1,7 @@
 -- First declarations: each name is found as among all declarations.
 use Rattle.std.proofs.Common.{◌≡◌, ℕ, suc, ◌+◌, ◌<◌, ◌≤◌, ◌∙◌, sym, ap, subst, refl, Bool, true, false, ◌&&◌, cond, List, [], ◌∷◌, ◌++◌, length, take, get_or, arith, nat_eq, append_assoc}
-use Rattle.std.specs.Prelude.{Option, Some, None}
-use Rattle.std.specs.Cmp.Lexicographic.{pointwise, same_text}
+use Rattle.std.specs.Prelude.{Option, Some, None, is_some}
+use Rattle.std.specs.Cmp.Lexicographic.{same_text}
 use Rattle.std.specs.Map.{lookup}
 use Rattle.std.specs.Option.{option_or}
 use Rattle.std.proofs.lemmas.List.{take_more, length-take-le}
@@ -32,6 +32,15 @@ lookup_either k (x ∷ a) b = by (same_key k x.0) (lookup_either k a b)
     by true h = refl
     by false h = h
 
+-- nothing is found, or something
+pub absent : (o : Option Spot) → is_some o ≡ false → o ≡ None
+absent None e = refl
+absent (Some s) e = cc
+
+pub present : (o : Option Spot) → is_some o ≡ true → (s : Spot) × (o ≡ Some s)
+present None e = absurd (cc)
+present (Some s) e = (s, refl)
+
 -- a declaration goes last
 pub pushed : (before table es : Table) → FindAlike before table → FindAlike (before ++ es) (table ++ es)
 pushed before table es h k =
@@ -59,13 +68,6 @@ goes_new m now after k v e a none table h =
     let free : lookup (same_key k) m.entries ≡ None = ap (lookup (same_key k)) (sym e) ∙ none in
     let is : after ≡ now ++ (k, v) ∷ [] = a ∙ insert_entry-new same_key m k v free ∙ ap (λ x. x ++ (k, v) ∷ []) (sym e) in
     subst (λ t. FindAlike t (table ++ (k, v) ∷ [])) (sym is) (pushed now table ((k, v) ∷ []) h)
-
-pub goes_nowhere : (before : Table) → GoesOn before before []
-goes_nowhere before table h k = h k ∙ sym (lookup_either k table [] ∙ nothing (lookup (same_key k) table))
-  where
-    nothing : (o : Option Spot) → option_or o None ≡ o
-    nothing None = refl
-    nothing (Some s) = refl
 
 -- one after the other
 pub goes_further : (before now after es fs : Table) → GoesOn before now es → GoesOn now after fs → GoesOn before after (es ++ fs)

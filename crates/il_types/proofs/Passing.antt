@@ -14,7 +14,7 @@ use Rattle.il_types.specs.declared.counts.Counts.{Counts}
 use Rattle.il_types.specs.declared.rules.Found.{Found}
 use Rattle.il_types.specs.declared.rules.Rule.{Rule}
 use Rattle.il_types.specs.Counts.{counts_behind}
-use Rattle.il_types.specs.Names.{Table, Front, front_of, one_more, setting, entries, first_taken, IsDeclared, counts_at}
+use Rattle.il_types.specs.Names.{Table, Front, front_of, one_more, setting, entries, first_taken, IsDeclared, FindAlike, GoesOn, counts_at}
 use Rattle.il_types.specs.Rules.{fault, naming, refusal_of, broken, twice_at, twice, passes_with, at_stmt, ComesFirst, ComesNowhere, Refuses, Answers}
 
 -- the front with one statement more
@@ -66,6 +66,24 @@ first_here pass stmts i stmt r h e before faulty place = record {
   before = before;
 }
 
+-- where a pass finds a fault a statement stands
+pub stands : (pass : ℕ → Statement → Option Found) (stmts : List Stmt) (i : ℕ) (f : Found) → at_stmt pass (map placed stmts) i ≡ Some f → i < length stmts
+stands pass stmts i f e = elim (cases_lt i (length stmts)) [
+  | inl lt ↦ lt
+  | inr ge ↦
+      let past : length (map placed stmts) ≤ i = subst (λ m. m ≤ i) (sym (length-map stmts placed)) ge in
+      let none = ap (option_and_then (λ (x : Placed). pass i x.says)) (slice_get_past (map placed stmts) i past) in
+      let clash : None ≡ Some f = sym none ∙ e in
+      absurd (cc)
+]
+
+-- the first fault of a pass, by what the pass finds at its statement
+pub first_there : (pass : ℕ → Statement → Option Found) (stmts : List Stmt) (i : ℕ) (stmt : Stmt) (r : Refusal) → i < length stmts → stmt ≡ get_or stmts i stmt
+    → ((k : ℕ) → k < i → at_stmt pass (map placed stmts) k ≡ None) → at_stmt pass (map placed stmts) i ≡ Some (record { code = r.code; name = r.name })
+    → r.place ≡ stmt.place → ComesFirst pass (map placed stmts) r
+first_there pass stmts i stmt r h e before found place =
+    first_here pass stmts i stmt r h e before (sym (ap (option_and_then (λ (x : Placed). pass i x.says)) (here stmts i stmt h e)) ∙ found) place
+
 pub refuses_here : (pass : ℕ → Statement → Option Found) (stmts : List Stmt) (i : ℕ) (stmt : Stmt) (found : Found) (r : Refusal) → i < length stmts → stmt ≡ get_or stmts i stmt
     → ((k : ℕ) → k < i → at_stmt pass (map placed stmts) k ≡ None) → pass i (statement_of stmt.form) ≡ Some found
     → r ≡ refusal_of found stmt.place → ComesFirst pass (map placed stmts) r
@@ -105,6 +123,14 @@ table_more stmts i stmt table next c h e t same at n =
     ∙ ap (λ u. u ++ entries c.procedures c.statements x) t
     ∙ ap (λ (d : Counts). (front_of (take i (map placed stmts))).table ++ entries d.procedures d.statements x) same
     ∙ sym (ap (λ (f : Front). f.table) (front_more stmts i stmt h e))
+
+-- a table that finds alike, with the first declarations of one statement more
+pub alike_more : (stmts : List Stmt) (i : ℕ) (stmt : Stmt) (table next : Table) (c : Counts) → i < length stmts → stmt ≡ get_or stmts i stmt
+    → FindAlike table (front_of (take i (map placed stmts))).table → c ≡ counts_at (map placed stmts) i → c.statements ≡ i
+    → GoesOn table next (entries c.procedures i (statement_of stmt.form)) → FindAlike next (front_of (take (i + 1) (map placed stmts))).table
+alike_more stmts i stmt table next c h e t same at goes =
+    let before = (front_of (take i (map placed stmts))).table in
+    subst (FindAlike next) (table_more stmts i stmt before (before ++ entries c.procedures i (statement_of stmt.form)) c h e refl same at refl) (goes before t)
 
 -- the front of all statements
 pub whole_front : (stmts : List Stmt) (n : ℕ) → length stmts ≤ n → (front_of (take n (map placed stmts))).table ≡ (front_of (map placed stmts)).table

@@ -1,8 +1,8 @@
-ghost use Rattle.std.specs.Prelude.{◌≡◌, ◌<◌, ◌++◌, ◌∷◌, [], not, map, Some, None, IfOk, OnErr, if◌then◌else◌};
+ghost use Rattle.std.specs.Prelude.{◌≡◌, ◌++◌, ◌∷◌, [], map, Some, None, IfOk, if◌then◌else◌};
 ghost use Rattle.std.specs.Map.{lookup};
 ghost use Rattle.std.specs.Option.{option_or};
 ghost use Rattle.il_core.specs.Statement.{statement_of, placed};
-ghost use Rattle.il_types.specs.Names.{same_key, is_taken, earlier, of_procedure, first_taken, entries_from, entries, front_of, IsDeclared, FindAlike, GoesOn};
+ghost use Rattle.il_types.specs.Names.{same_key, is_taken, earlier, of_procedure, entries_from, entries, front_of, IsDeclared, FindAlike, GoesOn};
 ghost use Rattle.il_types.specs.Redeclaration.{IsFirstRedeclaration};
 ghost use Rattle.il_types.specs.Rules.{Declares};
 
@@ -286,9 +286,15 @@ pub fn first_declared(alloc: Global, stmts: &[Stmt]) -> Result<FirstDeclarations
     ensures first { IfOk result (λ d. IsFirstRedeclaration (map placed stmts.now) d.redeclaration) }
     ensures whole { IfOk result (λ d. d.redeclaration ≡ None → d.names ≡ (front_of (map placed stmts.now)).table) }
 {
-    let declared = declare_until(alloc, stmts)?;
-    match declared.redeclaration {
-        None => Ok(declared),
+    let FirstDeclarations {
+        names,
+        redeclaration,
+    } = declare_until(alloc, stmts)?;
+    match redeclaration {
+        None => Ok(FirstDeclarations {
+            names,
+            redeclaration: None,
+        }),
         Some(redeclaration) => Ok(FirstDeclarations {
             names: first_names(alloc, stmts)?,
             redeclaration: Some(redeclaration),
@@ -301,9 +307,12 @@ pub fn first_declared(alloc: Global, stmts: &[Stmt]) -> Result<FirstDeclarations
 pub fn declare_all(alloc: Global, stmts: &[Stmt]) -> Result<Names, TextEnd>
     ensures { Declares (map placed stmts.now) result }
 {
-    let declared = declare_until(alloc, stmts)?;
-    match declared.redeclaration {
-        None => Ok(declared.names),
+    let FirstDeclarations {
+        names,
+        redeclaration,
+    } = declare_until(alloc, stmts)?;
+    match redeclaration {
+        None => Ok(names),
         Some(redeclaration) => Err(TextEnd::Refused(Refusal {
             code: Code::Twice,
             place: stmts[redeclaration.at].place,
