@@ -6,6 +6,7 @@
 
 mod clash;
 mod gathering;
+mod number;
 mod outline;
 mod search;
 mod sorted;
