@@ -1,5 +1,5 @@
 -- What stands before the first underscore of a new name.
-use Rattle.std.proofs.Common.{◌≡◌, ℕ, zero, suc, ◌+◌, ◌-◌, ◌<◌, ◌≤◌, ◌%◌, ◌^◌, ◌==◌, nat_lt, nat_eq, ◌∙◌, sym, ap, subst, refl, if◌then◌else◌, get_or, ◌||◌, cond, not, Bool, true, false, List, [], ◌∷◌, ◌++◌, length, take, drop, arith, append_assoc}
+use Rattle.std.proofs.Common.{◌≡◌, ℕ, suc, ◌+◌, ◌-◌, ◌<◌, ◌%◌, ◌^◌, ◌==◌, nat_lt, nat_eq, ◌∙◌, sym, ap, subst, refl, if◌then◌else◌, get_or, ◌||◌, cond, not, Bool, true, false, List, [], ◌∷◌, ◌++◌, length, take, drop, arith, append_assoc}
 use Rattle.std.specs.Prelude.{Option, Some, None, find, position, decimal}
 use Rattle.std.specs.Cmp.Lexicographic.{pointwise, nat_list_eq_equiv}
 use Rattle.std.specs.List.{list_any, position_or_len}

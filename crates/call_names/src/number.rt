@@ -1,4 +1,4 @@
-//! The numbers of calls that names tell.
+//! The numbers of the calls as whose new names some names go on: most calls are passed over by their number alone.
 ghost use Rattle.std.specs.Prelude.{◌≡◌, ◌==◌, ◌++◌, ◌<◌, ◌^◌, ℕ, Bool, true, List, length, position, nat_eq, Some, IfSome, IfOk};
 ghost use Rattle.std.specs.List.{list_any};
 ghost use Rattle.std.specs.Option.{option_to_list};
@@ -47,6 +47,7 @@ fn number_behind(stem: &[u8], name: &Name) -> Option<usize>
     }
 }
 
+/// Puts a number behind the others, if there is one.
 fn push_number(numbers: &mut Vec<usize>, number: Option<usize>) -> Result<(), NoMemory>
     ensures { IfOk result (λ _. numbers.new.items ≡ numbers.old.items ++ option_to_list number) }
 {

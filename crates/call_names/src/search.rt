@@ -82,7 +82,7 @@ fn first_copy(
 }
 
 /// The first of the names sought among the new names that a call of a number brings which calls the procedure of a number, each behind these
-/// bytes. It goes deeper only where a name sought begins as the new names there do, so at most as deep as the longest of them has bytes.
+/// bytes. It goes deeper only into the calls with whose numbers a name sought goes on, so at most as deep as the longest of them has bytes.
 pub(crate) fn first_new(
     alloc: Global,
     outlines: &[Outline],

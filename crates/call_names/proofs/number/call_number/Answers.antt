@@ -1,5 +1,4 @@
-use Rattle.std.proofs.Common.{◌≡◌, ◌∙◌, sym, ap, arith, rules}
-use Rattle.std.specs.Prelude.{Some}
+use Rattle.std.proofs.Common.{◌∙◌, sym}
 use Rattle.std.proofs.lemmas.Fmt.{parse-decimal}
 use Rattle.call_names.proofs.Numbered.{digits_there, digits_text, some_place}
 use Rattle.call_names.proofs.number.call_number.Goals as goal
