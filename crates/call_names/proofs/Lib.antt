@@ -1,5 +1,6 @@
 pub mod Joined
 pub mod InOrder
+pub mod Numbered
 pub mod Passing
 pub mod Brought
 pub mod Parts

@@ -6,6 +6,7 @@ ghost use Rattle.call_names.specs.Outlines.{AreOutlined};
 ghost use Rattle.call_names.specs.Sorted.{AreInOrder};
 ghost use Rattle.call_names.specs.declared.outline.Variable.{Variable};
 
+use crate::number::{is_one_of, numbers_behind};
 use crate::outline::{Outline, Variable};
 use crate::sorted::all_beginning_with;
 use crate::stem::{is_joined, stem_of_call};
@@ -81,7 +82,7 @@ fn first_copy(
 }
 
 /// The first of the names sought among the new names that a call of a number brings which calls the procedure of a number, each behind these
-/// bytes. It goes deeper only where a name sought begins as the new names there do, so at most as deep as the longest of them has bytes.
+/// bytes. It goes deeper only into the calls with whose numbers a name sought goes on, so at most as deep as the longest of them has bytes.
 pub(crate) fn first_new(
     alloc: Global,
     outlines: &[Outline],
@@ -107,8 +108,12 @@ pub(crate) fn first_new(
         Some(name) => return Ok(Some(name)),
         None => {}
     }
+    let numbers = numbers_behind(alloc, stem.as_slice(), those)?;
     let before = &outlines[..number];
     for (k, callee) in outline.calls.as_slice().iter().enumerate() {
+        if !is_one_of(k + 1, numbers.as_slice()) {
+            continue;
+        }
         match first_new(alloc, before, *callee, stem.as_slice(), k + 1, those)? {
             Some(name) => return Ok(Some(name)),
             None => {}

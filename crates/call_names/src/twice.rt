@@ -67,9 +67,11 @@ fn redeclared_at(redeclaration: &Option<Redeclaration>, at: usize) -> Option<Nam
 /// The refusal of a text with calls by its names (`Code::Twice`, with the name), or `None` exactly where none is declared twice: the first
 /// statement that declares a name that is taken, or that CALLs an earlier procedure of which a place's new name is a variable of the
 /// caller. Given is the first statement of the former kind, with the name; the declarations given may leave out those of a name that its
-/// scope has already. An error comes where memory runs out. No call is expanded. The names of each procedure are sorted once, and a
-/// CALL looks among them by binary search: where none begins as its new names do it costs the logarithm of their number; else those that do
-/// are compared with the variables and calls of the procedure called, and deeper only as far as some of them go on.
+/// scope has already. An error comes where memory runs out. No call is expanded. The names of each procedure are
+/// sorted once, and a CALL looks among those of its procedure by binary search: where none begins as its new names do, this takes a time
+/// logarithmic in their number. Only the names that do begin so are compared with the variables and the calls of the procedure called, and
+/// a call there is searched only where one of them goes on with its number. So the time is that of sorting the names, and for each name
+/// that begins as new names do, that of passing once over the procedures in which it is looked for.
 pub fn first_twice(
     alloc: Global,
     names: &Names,
