@@ -2,7 +2,6 @@
 use Rattle.std.proofs.Common.{◌≡◌, ℕ, ◌<◌, ◌≤◌, ◌∙◌, sym, subst, true, List, length, arith, nat_le}
 use Rattle.std.specs.Prelude.{Some, slice_get}
 use Rattle.std.proofs.lemmas.Option.{same_Some, slice_get_within}
-use Rattle.il_core.specs.Bounds.{AreSmall}
 use Rattle.il_core.specs.Name.{is_name, is_word}
 use Rattle.il_core.specs.Statement.{Placed}
 use Rattle.il_types.specs.Names.{Setting}

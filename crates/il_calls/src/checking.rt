@@ -96,8 +96,9 @@ fn check_declared(
 ///
 /// The other error, `NoMemory`, comes where memory runs out.
 ///
-/// No call is expanded. The time is linear in the text but for the look-ups by name, for the statements of each procedure, which are gone
-/// over a few times, and for the search for new names of places among the variables of the caller.
+/// No call is expanded. The statements of a procedure are gone over a few times, and the time is linear in the text but for the look-ups by
+/// name, the square of the number of arguments of a CALL, and the search among the variables of its procedure for the new names that it
+/// brings.
 pub fn check_calls(alloc: Global, stmts: &[Stmt], links: &[Link]) -> Result<CalledText, TextEnd>
     requires order { IsInOrder (map placed stmts.now) }
     requires links { AreLinks (map placed stmts.now) links.now }
