@@ -4,5 +4,6 @@
 #![tactic(auto)]
 
 mod checking;
+mod variables;
 
 pub use checking::check_calls;
