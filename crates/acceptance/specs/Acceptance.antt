@@ -10,7 +10,7 @@ use Rattle.il_core.specs.declared.refusal.TextEnd.TheVariants as end
 use Rattle.il_core.specs.declared.statement.Link.{Link}
 use Rattle.il_lexer.specs.Reading.{IsReading}
 use Rattle.il_syntax.specs.Parse.{Parses}
-use Rattle.il_blocks.specs.BlockFault.{HasNoFault, IsRefusedAt}
+use Rattle.il_blocks.specs.BlockFault.{IsRefusedAt}
 use Rattle.il_blocks.specs.BlockLink.{AreLinks}
 use Rattle.il_inline.specs.Expanded.{IsExpandedText, WholeExpansion, whole_expansion, whole_of}
 use Rattle.il_inline.specs.declared.expanded.Expanded.{Expanded}

@@ -31,11 +31,12 @@ fn expanded_tokens(alloc: Global, text_len: usize, tokens: &[Token]) -> Result<E
     }
 }
 
-/// The expansion of a text of at most 1,048,576 bytes: its checked text once each call is expanded in place, with the line
-/// as written from which each line comes. `Refused` comes with the first refusal of the text, exactly
-/// where it has one: each code is looked for over the whole text before the next, `Code::NotAscii`, `Lexical`, `Number`,
-/// `Syntax`, `Order`, `Unmatched`, and then those of `il_calls::check_calls`, in its order; it stands at its first place.
-/// `NoMemory` is the only free answer. The time is linear in the text and its expansion but for the look-ups by name.
+/// The expansion of a text of at most 1,048,576 bytes: its checked text once each call is expanded in place, with the
+/// line as written from which each line comes. `Refused` comes with the first refusal of the text, exactly where it
+/// has one: each code is looked for over the whole text before the next, `Code::NotAscii`, `Lexical`, `Number`,
+/// `Syntax`, `Order`, `Unmatched`, and then those of `il_calls::check_calls`, in its order; it stands at its first
+/// place. `NoMemory` is the only free answer. The time is linear in the text and its expansion but for the look-ups
+/// by name.
 #[tactic(auto, unfolding(crate::specs::Acceptance::Accepts, crate::specs::Acceptance::HasRefusal))]
 pub fn accept(alloc: Global, text: &[u8]) -> Result<Expanded, TextEnd>
     requires { length text.now ≤ 1048576 }

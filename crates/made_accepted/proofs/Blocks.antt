@@ -1,6 +1,6 @@
 -- The blocks of a made text are matched: its procedure stands open around its loops, of which each is closed before the next opens,
--- and there is no label.
-use Rattle.std.proofs.Common.{◌≡◌, ℕ, zero, suc, ◌+◌, ◌<◌, ◌≤◌, List, [], ◌∷◌, ◌++◌, length, refl, sym, ap, ◌∙◌, subst, arith, drop, true, append_assoc, length-append, inl, inr, get_or}
+-- and there is no label. Nor is there a CALL.
+use Rattle.std.proofs.Common.{◌≡◌, ℕ, zero, suc, ◌+◌, ◌<◌, ◌≤◌, List, [], ◌∷◌, ◌++◌, length, refl, sym, ap, ◌∙◌, subst, arith, drop, true, false, append_assoc, length-append, inl, inr, get_or}
 use Rattle.std.specs.Prelude.{Option, Some, None, slice_get, codes}
 use Rattle.std.specs.List.{flat_map, range_with_len}
 use Rattle.std.proofs.lemmas.Option.{slice_get_within, slice_get-get_or}
@@ -17,6 +17,7 @@ use Rattle.il_blocks.specs.BlockTable.{AreMates, noted, head}
 use Rattle.il_blocks.proofs.BlockLinks.{LinksSoFar, no_links, links_more, links_whole}
 use Rattle.il_blocks.proofs.BlockMates.{SoFar, none_so_far, so_far_next, all_mates}
 use Rattle.il_blocks.proofs.BlockStack.{no_stack, goes_past, none_unmatched}
+use Rattle.call_free.specs.Laws.{is_call, HasNoCall}
 use Rattle.made_text.specs.Made as made
 use Rattle.made_accepted.specs.Statements.{placed_from, round, closing, statements, at_least, raised}
 
@@ -101,22 +102,25 @@ are_matched n =
     let finished = pass_one (statements n) _ _ _ _ _ closed refl in
     all_matched (statements n) _ finished
 
--- no statement is a LABEL or a GOTO
+-- no statement is a LABEL, a GOTO or a CALL
 abbrev AreBare : List Placed → Type 0
 AreBare [] = Unit {0}
-AreBare (s ∷ ss) = (label_of s.says ≡ None) × (target_of s.says ≡ None) × AreBare ss
+AreBare (s ∷ ss) = (label_of s.says ≡ None) × (target_of s.says ≡ None) × (is_call s.says ≡ false) × AreBare ss
 
 rounds_bare : (ks : List ℕ) (at : ℕ) → AreBare (placed_from at (flat_map made.round ks ++ made.closing) (flat_map round ks ++ closing))
-rounds_bare [] at = (refl, refl, (refl, refl, tt))
-rounds_bare (k ∷ ks) at = (refl, refl, (refl, refl, (refl, refl, (refl, refl, rounds_bare ks _))))
+rounds_bare [] at = (refl, refl, refl, (refl, refl, refl, tt))
+rounds_bare (k ∷ ks) at = (refl, refl, refl, (refl, refl, refl, (refl, refl, refl, (refl, refl, refl, rounds_bare ks _))))
 
 all_bare : (n : ℕ) → AreBare (statements n)
-all_bare n = (refl, refl, (refl, refl, (refl, refl, (refl, refl, (refl, refl, rounds_bare (range_with_len 1 n) _)))))
+all_bare n = (refl, refl, refl, (refl, refl, refl, (refl, refl, refl, (refl, refl, refl, (refl, refl, refl, rounds_bare (range_with_len 1 n) _)))))
 
-bare_at : (ss : List Placed) (i : ℕ) (s : Placed) → AreBare ss → slice_get ss i ≡ Some s → (label_of s.says ≡ None) × (target_of s.says ≡ None)
+bare_at : (ss : List Placed) (i : ℕ) (s : Placed) → AreBare ss → slice_get ss i ≡ Some s → (label_of s.says ≡ None) × (target_of s.says ≡ None) × (is_call s.says ≡ false)
 bare_at [] i s h e = absurd (let z : ◌≡◌ {A = Option Placed} None (Some s) = e in cc)
-bare_at (x ∷ ss) zero s h e = let same : x ≡ s = cc in subst (λ (y : Placed). (label_of y.says ≡ None) × (target_of y.says ≡ None)) same (h.0, h.1)
-bare_at (x ∷ ss) (suc i) s h e = bare_at ss i s h.2 e
+bare_at (x ∷ ss) zero s h e = let same : x ≡ s = cc in subst (λ (y : Placed). (label_of y.says ≡ None) × (target_of y.says ≡ None) × (is_call y.says ≡ false)) same (h.0, h.1, h.2)
+bare_at (x ∷ ss) (suc i) s h e = bare_at ss i s h.3 e
+
+pub no_call : (n : ℕ) → HasNoCall (statements n)
+no_call n i s e = (bare_at (statements n) i s (all_bare n) e).2
 
 not_both : (o : Option (List ℕ)) (name : List ℕ) → o ≡ None → o ≡ Some name → ⊥
 not_both o name e f = let z : ◌≡◌ {A = Option (List ℕ)} None (Some name) = sym e ∙ f in cc

@@ -5,7 +5,8 @@ use Rattle.il_lexer.specs.Reading.{IsReading}
 use Rattle.il_blocks.specs.BlockFault.{HasNoFault}
 use Rattle.il_types.specs.Rules.{Answers}
 use Rattle.il_syntax.specs.Parse.{Parses}
-use Rattle.il_core.specs.Text.{Text}
+use Rattle.il_inline.specs.Expanded.{WholeExpansion}
+use Rattle.call_free.specs.Laws.{HasNoCall}
 use Rattle.il_core.specs.declared.refusal.Refusal.{Refusal}
 use Rattle.acceptance.specs.Acceptance.{Accepts, HasRefusal}
 use Rattle.made_text.specs.Made.{made_text}
@@ -20,13 +21,13 @@ pub record IsSaid (n : ℕ) : Type 0 where
 abbrev pub HaveMadeStatements : Type 0
 HaveMadeStatements = (n : ℕ) → 1 ≤ n → n ≤ 200 → IsSaid n
 
--- the statements of a made text have no fault of blocks and labels, and break no rule
+-- the statements of a made text have no fault of blocks and labels, break no rule, and have no CALL
 abbrev pub HaveNoFault : Type 0
-HaveNoFault = (n : ℕ) → 1 ≤ n → n ≤ 200 → HasNoFault (statements n) × Answers (statements n) None
+HaveNoFault = (n : ℕ) → 1 ≤ n → n ≤ 200 → HasNoFault (statements n) × Answers (statements n) None × HasNoCall (statements n)
 
--- a made text is accepted, with a checked text
+-- a made text is accepted, with an expansion
 abbrev pub AreAccepted : Type 0
-AreAccepted = (n : ℕ) → 1 ≤ n → n ≤ 200 → (t : Text) × Accepts (made_text n) t
+AreAccepted = (n : ℕ) → 1 ≤ n → n ≤ 200 → (x : WholeExpansion) × Accepts (made_text n) x
 
 -- no made text is refused
 abbrev pub AreNotRefused : Type 0
