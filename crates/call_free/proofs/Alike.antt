@@ -1,9 +1,8 @@
 -- Without a CALL each rule of texts with calls finds what that of texts without calls finds.
-use Rattle.std.proofs.Common.{◌≡◌, ◌⊎◌, ℕ, suc, ◌+◌, ◌<◌, ◌≤◌, ◌∙◌, sym, ap, refl, inl, inr, false, List, [], ◌∷◌, length, arith}
+use Rattle.std.proofs.Common.{◌≡◌, ℕ, suc, ◌+◌, ◌≤◌, ◌∙◌, sym, ap, refl, inl, inr, false, List, [], ◌∷◌, ◌++◌, length, arith}
 use Rattle.std.specs.Prelude.{Option, Some, None, map, sum_by, slice_get}
 use Rattle.std.specs.Option.{option_and_then, option_map}
 use Rattle.std.proofs.lemmas.Option.{none-some, slice_get_within}
-use Rattle.il_core.specs.Procedure.{Instruction}
 use Rattle.il_core.specs.Statement.{Statement, Placed}
 use Rattle.il_core.specs.Statement as st
 use Rattle.il_core.specs.declared.refusal.Code.TheVariants as code
@@ -136,8 +135,12 @@ same_excess : (stmts : List Placed) (links : List Link) (i : ℕ) (x : Placed) �
 same_excess stmts links i x free there = ap (λ c. option_map (λ m. unnamed (code.TooMany m)) (too_many c)) (same_counts stmts links i x free there)
 
 all_alike : (stmts : List Placed) (links : List Link) → HasNoCall stmts → AllAlike stmts (calls.passes stmts links) (types.passes stmts)
-all_alike stmts links free = (λ i x e. same_twice stmts links i x.says (free i x e), (rules rule.Known, (rules rule.Typed, (rules rule.Allowed, (rules rule.Filled, (rules rule.Narrow,
-    (λ i x e. same_excess stmts links i x free e, (λ i x e. no_misfit stmts links i x.says (free i x e), tt))))))))
+all_alike stmts links free =
+    let limits : AllAlike stmts (calls.passes_with_calls stmts links) (broken rule.Limited (front_of stmts).table stmts ∷ []) =
+    (λ i x e. same_excess stmts links i x free e, (λ i x e. no_misfit stmts links i x.says (free i x e), tt)) in
+    let names : AllAlike stmts (calls.passes_with_names stmts ++ calls.passes_with_calls stmts links) (types.passes_with (front_of stmts).table stmts) =
+    (rules rule.Known, (rules rule.Typed, (rules rule.Allowed, (rules rule.Filled, (rules rule.Narrow, limits))))) in
+    (λ i x e. same_twice stmts links i x.says (free i x e), names)
   where
     rules : (r : Rule) → FindAlike stmts (fault_at r stmts) (broken r (front_of stmts).table stmts)
     rules r i x e = same_fault r stmts i x.says (free i x e)

@@ -1,6 +1,6 @@
 -- Statements in order without a CALL that have their links and keep all rules stand for the checked text as before.
 use Rattle.std.proofs.Common.{◌≡◌, ◌⊎◌, ℕ, zero, suc, ◌+◌, ◌∙◌, sym, ap, subst, refl, inl, inr, List, [], ◌∷◌, ◌++◌, length, drop, arith, append-nil, append_assoc}
-use Rattle.std.specs.Prelude.{Some, None, map, slice_get}
+use Rattle.std.specs.Prelude.{Some, map, slice_get}
 use Rattle.std.proofs.lemmas.List.{map-append}
 use Rattle.std.proofs.lemmas.Option.{none-some, same_Some, slice_get-map}
 use Rattle.il_core.specs.Checked.{IsChecked}
@@ -13,14 +13,12 @@ use Rattle.il_built.specs.CheckedText as text
 use Rattle.il_built.proofs.CheckedLinesWhole.{procedures_are_checked}
 use Rattle.il_built.proofs.Entered.{mapped}
 use Rattle.il_called.specs.Called.{WrittenProcedure}
-use Rattle.il_called.specs.Expansion.{Callee, variables_in, callees_behind, callees_of, expansion_of, procedure_in, origin_at}
-use Rattle.il_called.specs.declared.called.CallSpan.{CallSpan}
-use Rattle.il_called.specs.declared.called.Origin.{Origin}
-use Rattle.il_inline.specs.Expanded.{expanded_procedure, whole_expansion}
-use Rattle.call_rules.specs.CalledText.{called_text, procedures_from, written_procedure, written_procedures}
+use Rattle.il_called.specs.Expansion.{Callee, variables_in, callees_behind, callees_of}
+use Rattle.il_inline.specs.Expanded.{expanded_procedure}
+use Rattle.call_rules.specs.CalledText.{procedures_from, written_procedure, written_procedures}
 use Rattle.call_limits.proofs.Callees.{made}
 use Rattle.call_limits.proofs.Variables.{variables_are, copies_behind}
-use Rattle.call_free.specs.Laws.{HasNoCall, IsItself, StandsForItself}
+use Rattle.call_free.specs.Laws.{HasNoCall, StandsForItself}
 use Rattle.call_free.proofs.Lines.{lines_own}
 use Rattle.call_free.proofs.Moved.{IsPlain, with_lines, of_own, expanded_own, plain_own}
 

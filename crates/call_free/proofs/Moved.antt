@@ -2,13 +2,12 @@
 use Rattle.std.proofs.Common.{◌≡◌, ℕ, zero, suc, ◌+◌, ◌<◌, ◌≤◌, ◌∙◌, sym, ap, refl, Bool, true, false, List, [], ◌∷◌, ◌++◌, length, take, drop, arith, append-nil, nat_lt, if◌then◌else◌}
 use Rattle.std.specs.Prelude.{Some, map, sum_by, slice_get}
 use Rattle.std.proofs.lemmas.List.Sums.{sum_by-cons}
-use Rattle.std.proofs.lemmas.Option.{none-some, same_Some}
+use Rattle.std.proofs.lemmas.Option.{same_Some}
 use Rattle.il_core.specs.Checked.{FitsAt}
 use Rattle.il_core.specs.Procedure.{Procedure, Instruction, if_true, otherwise, end_loop, exit, exit_when, goto, return}
 use Rattle.il_core.specs.declared.line.Place.{Place}
 use Rattle.il_called.specs.Called.{WrittenLine, own, WrittenProcedure}
 use Rattle.il_called.specs.Expansion.{Callee, renumbered, moved, variables_in, width_of, start_of, brings, own_place, each_from, lines_of, origin_at, origins_of, spans_of, places_of, expansion_of, procedure_in}
-use Rattle.il_called.specs.declared.called.CallSpan.{CallSpan}
 use Rattle.il_called.specs.declared.called.Origin.{Origin}
 use Rattle.il_runs.proofs.Renumber.{moved_itself}
 use Rattle.call_limits.proofs.Widths.{own_brings}
