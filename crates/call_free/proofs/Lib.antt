@@ -1,0 +1,4 @@
+pub mod Lines
+pub mod Alike
+pub mod Moved
+pub mod Itself

@@ -1,4 +1,5 @@
-//! Laws of texts without a CALL: they are judged as before there were calls, and what is made of them is the checked text as before.
+//! Laws of texts without a CALL: they are judged as before there were calls, and what is made of them is the checked text as
+//! before.
 #![tactic(auto)]
 
 mod laws;
