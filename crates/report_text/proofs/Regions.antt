@@ -1,5 +1,5 @@
 -- Regions written one by one, each with its threats.
-use Rattle.std.proofs.Common.{Result, ◌≡◌, ◌∙◌, refl, sym, ap, ℕ, ◌+◌, ◌-◌, ◌<◌, ◌≤◌, List, [], ◌++◌, length, take, drop, get_or, Option, Ok, Err, append_assoc, append-nil, add-one, length-drop, drop-cons, ◌==◌, arith}
+use Rattle.std.proofs.Common.{Result, ◌≡◌, ◌∙◌, refl, sym, ap, ℕ, ◌+◌, ◌-◌, ◌<◌, ◌≤◌, List, [], ◌++◌, length, take, drop, get_or, Option, Ok, Err, append_assoc, add-one, length-drop, drop-cons, ◌==◌, arith}
 use Rattle.std.proofs.lemmas.List.{drop_all, drop-drop, take_all}
 use Rattle.std.proofs.lemmas.List.Sums.{prefix_len-le-length}
 use Rattle.il_core.specs.declared.line.Place.{Place}

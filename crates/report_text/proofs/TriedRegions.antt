@@ -1,5 +1,5 @@
 -- Regions written one by one, each with its test inputs.
-use Rattle.std.proofs.Common.{Result, ◌≡◌, ◌∙◌, refl, sym, ap, ℕ, suc, ◌+◌, ◌<◌, ◌≤◌, List, [], ◌++◌, length, drop, get_or, Option, Ok, Err, append_assoc, append-nil, add-one, drop-cons}
+use Rattle.std.proofs.Common.{◌≡◌, ◌∙◌, refl, sym, ap, ℕ, suc, ◌+◌, ◌<◌, ◌≤◌, List, [], ◌++◌, length, drop, get_or, Option, Ok, Err, append_assoc, append-nil, add-one, drop-cons}
 use Rattle.std.proofs.lemmas.List.{drop_all}
 use Rattle.il_core.specs.declared.line.Place.{Place}
 use Rattle.il_edge.specs.declared.device.Failed.{Failed}

@@ -1,5 +1,4 @@
-use Rattle.std.proofs.Common.{◌≡◌, ◌++◌, ◌∙◌, ap, sym}
-use Rattle.il_core.specs.Certificate.{certificate_of, split}
+use Rattle.il_core.specs.Certificate.{certificate_of}
 use Rattle.cert_text.specs.Line.{text_of}
 use Rattle.cert_text.specs.Text.{body_lines}
 use Rattle.form_text.proofs.Putting.{puts_then, puts_failed, puts_short, puts_as}
