@@ -44,6 +44,14 @@ const LADDER: &str =
 const LADDER_SLICE: &str =
     "MALPAS PROFILE 1\nTITLE t\nPROCEDURE p LINES 10\nSLICE\nNOT REPORTED IRREDUCIBLE\nSTATUS 1\n";
 
+/// A procedure that calls another.
+const CALLING: &str =
+    "TITLE t;\nPROC inc;\nINOUT v : 0 .. 5;\nPRE TRUE;\nPOST TRUE;\nv := v + 1;\nENDPROC;\nPROC main;\nINOUT x : 0 .. 5;\nPRE TRUE;\nPOST TRUE;\nCALL inc(x);\nENDPROC;\nFINISH;\n";
+
+/// The control structure of both, with the lines that stand for the call.
+const CALLING_CONTROL: &str =
+    "MALPAS PROFILE 1\nTITLE t\nPROCEDURE inc LINES 3\nCONTROL\nUNREACHABLE -\nSTUCK -\nLEVEL 0\nINTERVAL L0: L0 L1 L2\nSHAPE REDUCIBLE\nPROCEDURE main LINES 8\nEXPANDED L1 L6 inc\nCONTROL\nUNREACHABLE -\nSTUCK -\nLEVEL 0\nINTERVAL L0: L0 L1 L2 L3 L4 L5 L6 L7\nSHAPE REDUCIBLE\nSTATUS 1\n";
+
 /// The summary of the made text of 3.
 const OF_THREE: &str =
     "GENERATED 3\nLINES 14\nREGIONS 4\nROWS 7\nTHREATS 4\nFALSE 4\nSHOWN 0\nOPEN 0\nPAST 0\n";
@@ -73,6 +81,11 @@ fn expect(
 fn writes_the_sections_that_are_selected(rt: HostRuntime) -> Result<(), Fail> {
     expect(&rt, rt.alloc(), &["--flow", "--flow"], COPY, 0, COPY_FLOW)?;
     expect(&rt, rt.alloc(), &["--use"], RISING, 1, RISING_USE)
+}
+
+#[test]
+fn tells_the_lines_of_a_call(rt: HostRuntime) -> Result<(), Fail> {
+    expect(&rt, rt.alloc(), &["--control"], CALLING, 1, CALLING_CONTROL)
 }
 
 #[test]

@@ -23,7 +23,7 @@ pub returns-in-Err-write_next-clause-told_of : goal.returns-in-Err-write_next-cl
 returns-in-Err-write_next-clause-told_of g c =
     let done = c.loop-number.invariant.so_far in
     let procs = (text_of c.args.input.now.text.text).procs in
-    let inside : c.loop-number.number < length procs = omega (arith, c.loop-number-test.true, c.len.ensures, length-map c.args.input.now.text.text.procs text_procedure) in
+    let inside : c.loop-number.number < length procs = omega (arith, c.loop-number-test.true, c.len-number-end.ensures, ap length c.procs.ensures.value, length-map c.args.input.now.text.text.procs text_procedure) in
     let report = subst (λ certs. IfSome (slice_get procs c.loop-number.number) (λ p. IsProcReportOf certs p c.in-Ok.part)) c.as_slice-certs.ensures c.in-Ok.ensures.report in
     told_next c.args.input.now.certs (whole_of c.args.input.now.text) c.loop-number.number c.loop-number.report (record c.loop-number.report { procs = c.push.new.self }) c.in-Ok.part
     inside done.made done.told_of report c.in-Ok.ensures.calls c.in-Ok.ensures.runs refl refl c.in-Ok-push.ensures.ok
@@ -39,7 +39,7 @@ loop-number-preserved g c =
     let done = c.loop-number.invariant.so_far in
     let pushed = c.in-Ok-push.ensures.ok in
     let procs = (text_of c.args.input.now.text.text).procs in
-    let inside : c.loop-number.number < length procs = omega (arith, c.loop-number-test.true, c.len.ensures, length-map c.args.input.now.text.text.procs text_procedure) in
+    let inside : c.loop-number.number < length procs = omega (arith, c.loop-number-test.true, c.len-number-end.ensures, ap length c.procs.ensures.value, length-map c.args.input.now.text.text.procs text_procedure) in
     let report = subst (λ certs. IfSome (slice_get procs c.loop-number.number) (λ p. IsProcReportOf certs p c.in-Ok.part)) c.as_slice-certs.ensures c.in-Ok.ensures.report in
     let sent = c.in-Ok-write_next.ensures.sent in
     let longer : length c.push.new.self ≡ c.loop-number.number + 1 = ap length pushed ∙ length_push c.loop-number.report.procs c.in-Ok.part ∙ ap (λ n. n + 1) done.made in
