@@ -1,5 +1,5 @@
 -- Where the report of a text has status 0, no procedure of the text has a bad run.
-use Rattle.std.proofs.Common.{◌≡◌, ◌⊎◌, inl, inr, ℕ, zero, suc, ◌+◌, ◌==◌, Bool, true, false, ◌&&◌, ◌||◌, List, [], ◌∷◌, slice_get, Option, None, Some, IfSome, refl, sym, subst, if◌then◌else◌, arith}
+use Rattle.std.proofs.Common.{◌≡◌, ◌⊎◌, inl, inr, ℕ, zero, suc, ◌+◌, ◌==◌, Bool, true, false, ◌&&◌, ◌||◌, List, [], ◌∷◌, slice_get, Option, None, Some, IfSome, refl, subst, if◌then◌else◌, arith}
 use Rattle.std.proofs.lemmas.Bool.{false≢true}
 use Rattle.std.specs.List.{list_all, list_any}
 use Rattle.compliance.specs.declared.threat.Threat.{Threat}
@@ -12,7 +12,8 @@ use Rattle.il_core.specs.LineGraph.{IsIn}
 use Rattle.il_core.specs.declared.certificate.NamedCert.{NamedCert}
 use Rattle.il_core.specs.Procedure.{Procedure}
 use Rattle.il_core.specs.Run.{HasNoBadRun}
-use Rattle.il_core.specs.Text.{TextProcedure, Text}
+use Rattle.il_core.specs.Text.{TextProcedure}
+use Rattle.il_inline.specs.Expanded.{WholeExpansion}
 use Rattle.report.specs.declared.report.Analyses.{Analyses}
 use Rattle.report.specs.declared.report.CertRow.{CertRow}
 use Rattle.report.specs.declared.report.ProcReport.{ProcReport}
@@ -99,9 +100,10 @@ report_at certs (q ∷ ps) [] all k p at = absurd all
 report_at certs (q ∷ ps) (r ∷ rs) all zero p at = let same : q ≡ p = cc in (r, refl, subst (λ (x : TextProcedure). IsProcReportOf certs x r) same all.0)
 report_at certs (q ∷ ps) (r ∷ rs) all (suc k) p at = report_at certs ps rs all.1 k p at
 
-pub no_bad_run : (certs : List NamedCert) (t : Text) (report : Report) → IsReportOf certs t report → SettledProceduresHaveNoBadRun t report → status_of report ≡ 0 → NoProcedureHasABadRun t
-no_bad_run certs t report is safe zero_is = λ k p at.
-    let found = report_at certs t.procs report.procs is.procs k p at in
+pub no_bad_run : (certs : List NamedCert) (x : WholeExpansion) (report : Report) → IsReportOf certs x report → SettledProceduresHaveNoBadRun x.text report → status_of report ≡ 0
+    → NoProcedureHasABadRun x.text
+no_bad_run certs x report is safe zero_is = λ k p at.
+    let found = report_at certs x.text.procs report.procs is.procs k p at in
     let r = found.0 in
     let clean = both (is_reducible r.control.shape && all_hold r.certs) (are_clean r.certs r.analyses)
     (at_passes is_clean report.procs (status_zero (list_all is_clean report.procs) zero_is) k r found.1) in
