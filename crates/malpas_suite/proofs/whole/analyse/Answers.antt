@@ -9,7 +9,7 @@ use Rattle.malpas_suite.proofs.whole.analyse.Goals as goal
 pub loop-number-preserved : goal.loop-number-preserved
 loop-number-preserved c =
     let done = c.loop-number.invariant in
-    let inside : c.loop-number.number < length (text_of c.args.text.now.text).procs = omega (arith, c.loop-number-test.true, c.len.ensures, length-map c.args.text.now.text.procs text_procedure) in
+    let inside : c.loop-number.number < length (text_of c.args.text.now.text).procs = omega (arith, c.loop-number-test.true, c.len-number-end.ensures, length-map c.args.text.now.text.procs text_procedure) in
     record {
       told = told_next c.args.certs.now (whole_of c.args.text.now) c.loop-number.number c.loop-number.report (record c.loop-number.report { procs = c.push.new.self }) c.in_ok-part.part
           inside done.made done.told c.in_ok-part.ensures.report c.in_ok-part.ensures.calls c.in_ok-part.ensures.runs refl refl c.in_ok-push.ensures.ok;
