@@ -1,3 +1,4 @@
+mod Calls
 mod Regions
 mod Rows
 mod Safe

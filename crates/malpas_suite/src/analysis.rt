@@ -1,16 +1,18 @@
 //! The report of a procedure.
-ghost use Rattle.std.specs.Prelude.{◌≡◌, IfOk, IfSome};
+ghost use Rattle.std.specs.Prelude.{◌≡◌, ◌<◌, IfOk, IfSome, Some, length, slice_get};
 ghost use Rattle.il_core.specs.Checked.{procedure_of};
-ghost use Rattle.il_core.specs.Text.{text_procedure};
+ghost use Rattle.il_core.specs.Text.{text_of, text_procedure};
+ghost use Rattle.il_inline.specs.Expanded.{IsExpandedText, whole_of};
 ghost use Rattle.flow_graph.specs.Graph.{graph_of, IsWellFormed, HasPlaces};
 ghost use Rattle.control_flow.specs.Control.{IsControlOf};
 ghost use Rattle.control_flow.specs.declared.control.Shape.TheVariants.{Reducible};
 ghost use Rattle.interval_reduce.specs.Derivation.{IsDerivationOf, Reduces};
-ghost use Rattle.report.specs.Reported.{AreAnalyses, AreAnalysesBy, IsProcReportOf};
+ghost use Rattle.report.specs.Reported.{AreAnalyses, AreAnalysesBy, IsProcReportOf, call_lines};
 ghost use Rattle.report.specs.Certified.{threats_in, AreMade};
 ghost use Rattle.report.specs.Headline.{InputsHaveOneRow, IsSafeWhereClean, SourcesGiveEqualValues, TellsOfRuns};
 ghost use Rattle.threat_certs.specs.Settled.{AreSound};
 
+use crate::calls::calls_of;
 use crate::certificates::{made_of, rows_of};
 use crate::inputs::inputs_of;
 use crate::slices::slices_of;
@@ -20,10 +22,11 @@ use control_flow::{Control, Shape, control_of};
 use data_use::data_use;
 use flow_graph::{FlowGraph, build};
 use il_core::{CheckedProc, List, NamedCert, NoMemory};
+use il_inline::Expanded;
 use info_flow::flows_and_sets;
 use interval_reduce::{Derivation, derive};
 use path_expr::paths;
-use report::{Analyses, ProcReport};
+use report::{Analyses, CallLine, ProcReport};
 use std::alloc::Global;
 use test_graph::lower;
 use threat_certs::{certified_threats_mean_no_bad_run, listed_threats_are_sound};
@@ -108,7 +111,42 @@ fn threats_in(analyses: &Option<Analyses>) -> &[Threat]
     }
 }
 
-/// The report of a procedure: its name, places, lines and arcs, its control structure, the derivation of its graph by
+/// The report of a procedure that makes these calls.
+fn report_of(
+    alloc: Global,
+    proc: &CheckedProc,
+    calls: List<CallLine>,
+    certs: &[NamedCert],
+) -> Result<ProcReport, NoMemory>
+    ensures report { IfOk result (IsProcReportOf certs.now (text_procedure proc.now)) }
+    ensures calls { IfOk result (λ r. r.calls ≡ calls) }
+    ensures runs { IfOk result (λ r. IfSome r.analyses (TellsOfRuns (procedure_of proc.now) r.control.loops r.certs)) }
+{
+    listed_threats_are_sound();
+    certified_threats_mean_no_bad_run();
+    let places = proc.places().as_slice();
+    let graph = build(alloc, proc)?;
+    let control = control_of(alloc, &graph)?;
+    let derivation = derive(alloc, &graph, &control)?;
+    let analyses = analyses_by(alloc, proc, &graph, &control, &derivation)?;
+    let certs = rows_of(alloc, proc, threats_in(&analyses), certs)?;
+    let places = Vec::from_slice(alloc, places)?;
+    Ok(ProcReport {
+        name: proc.name(),
+        places: List::from_vec(places),
+        lines: proc.lines().len(),
+        calls,
+        arcs: graph.arcs,
+        control,
+        derivation,
+        analyses,
+        certs,
+    })
+}
+
+/// The report of the procedure of this number, counted from 0, of an expanded text. The procedure, its lines and its runs
+/// are those of the expanded text, which has no calls. Told are its name, places, lines and arcs, the lines that stand for each of its
+/// calls with the name of the procedure called, its control structure, the derivation of its graph by
 /// intervals (Allen and Cocke, A program data flow analysis procedure, 1976) and, exactly where that structure is
 /// reducible, its analyses: all paths as one expression over the arcs (Carré, An algebra for network routing problems,
 /// 1971), the use of each variable (by elimination, Carré, Graphs and Networks, 1979), what its final value rests on
@@ -131,29 +169,18 @@ fn threats_in(analyses: &Option<Analyses>) -> &[Threat]
 /// breadth-first search, and walks over the paths of the regions, of which each has at most 16,384 within its size. The only error is `NoMemory`.
 pub fn analyse_proc(
     alloc: Global,
-    proc: &CheckedProc,
+    text: &Expanded,
+    number: usize,
     certs: &[NamedCert],
 ) -> Result<ProcReport, NoMemory>
-    ensures report { IfOk result (IsProcReportOf certs.now (text_procedure proc.now)) }
-    ensures runs { IfOk result (λ r. IfSome r.analyses (TellsOfRuns (procedure_of proc.now) r.control.loops r.certs)) }
+    requires fits { IsExpandedText text.now }
+    requires number { number < length text.now.text.procs }
+    ensures report { IfOk result (λ r. IfSome (slice_get (text_of text.now.text).procs number) (λ p. IsProcReportOf certs.now p r)) }
+    ensures calls { IfOk result (λ r. slice_get (call_lines (whole_of text.now)) number ≡ Some r.calls) }
+    ensures runs { IfOk result (λ r. IfSome (slice_get (text_of text.now.text).procs number)
+        (λ p. IfSome r.analyses (TellsOfRuns p.body r.control.loops r.certs))) }
 {
-    listed_threats_are_sound();
-    certified_threats_mean_no_bad_run();
-    let places = proc.places().as_slice();
-    let graph = build(alloc, proc)?;
-    let control = control_of(alloc, &graph)?;
-    let derivation = derive(alloc, &graph, &control)?;
-    let analyses = analyses_by(alloc, proc, &graph, &control, &derivation)?;
-    let certs = rows_of(alloc, proc, threats_in(&analyses), certs)?;
-    let places = Vec::from_slice(alloc, places)?;
-    Ok(ProcReport {
-        name: proc.name(),
-        places: List::from_vec(places),
-        lines: proc.lines().len(),
-        arcs: graph.arcs,
-        control,
-        derivation,
-        analyses,
-        certs,
-    })
+    let calls = calls_of(alloc, text, number)?;
+    let proc = &text.text.procs().as_slice()[number];
+    report_of(alloc, proc, calls, certs)
 }

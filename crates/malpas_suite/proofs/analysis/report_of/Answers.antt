@@ -1,7 +1,7 @@
 use Rattle.il_core.specs.Checked.{procedure_of}
 use Rattle.report.specs.Certified.{certs_for}
 use Rattle.malpas_suite.proofs.Settled.{tells, sound_in}
-use Rattle.malpas_suite.proofs.analysis.analyse_proc.Goals as goal
+use Rattle.malpas_suite.proofs.analysis.report_of.Goals as goal
 
 pub rows_of-requires : goal.rows_of-requires
 rows_of-requires c =
