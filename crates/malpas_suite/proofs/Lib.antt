@@ -1,7 +1,7 @@
-mod Calls
 mod Regions
 mod Rows
 mod Safe
 mod Settled
 mod SliceRows
+mod SpanLines
 mod Tried
