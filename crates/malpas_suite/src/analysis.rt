@@ -145,9 +145,8 @@ fn report_of(
 }
 
 /// The report of the procedure of this number, counted from 0, of an expanded text. The procedure, its lines and its runs
-/// are those of the expanded text, which has no calls. Told are its name, places, lines and arcs, the lines that stand for
-/// each of its
-/// calls with the name of the procedure called, its control structure, the derivation of its graph by
+/// are those of the expanded text, which has no calls. Told are its name, places, lines and arcs, the lines that stand
+/// for each of its calls with the name of the procedure called, its control structure, the derivation of its graph by
 /// intervals (Allen and Cocke, A program data flow analysis procedure, 1976) and, exactly where that structure is
 /// reducible, its analyses: all paths as one expression over the arcs (Carré, An algebra for network routing problems,
 /// 1971), the use of each variable (by elimination, Carré, Graphs and Networks, 1979), what its final value rests on

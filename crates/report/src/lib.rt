@@ -10,5 +10,7 @@
 mod report;
 mod status;
 
-pub use report::{Analyses, CallLine, CertRow, ProcReport, RegionInputs, RegionTable, Report, SliceRow};
+pub use report::{
+    Analyses, CallLine, CertRow, ProcReport, RegionInputs, RegionTable, Report, SliceRow,
+};
 pub use status::status_of;
