@@ -10,12 +10,12 @@ from model.parsing import statements_of
 from model.program import CheckedText
 
 
-def written(text: bytes, calls: bool = False) -> CheckedText:
-    """The checked text as it is written; where calls are asked for, lines of it may be calls, and else CALL has no form."""
-    statements = statements_of(tokens_of(text), calls)
+def written(text: bytes) -> CheckedText:
+    """The checked text as it is written; lines of it may be calls."""
+    statements = statements_of(tokens_of(text))
     return check(statements, arrange(statements, len(text)))
 
 
-def accept(text: bytes, calls: bool = False) -> CheckedText:
+def accept(text: bytes) -> CheckedText:
     """The checked text with its calls expanded."""
-    return expanded(written(text, calls))
+    return expanded(written(text))

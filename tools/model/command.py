@@ -47,10 +47,10 @@ def read_words(words: list[str]) -> Request | None:
     return Request(sections, made[0] if made else None)
 
 
-def answer(text: bytes, sections: tuple[str, ...] = SIX, calls: bool = False) -> tuple[str, int]:
-    """What is printed for a text, which may have calls where they are asked for, and the exit status."""
+def answer(text: bytes, sections: tuple[str, ...] = SIX) -> tuple[str, int]:
+    """What is printed for a text, and the exit status."""
     try:
-        return report_of(accept(text, calls), sections)
+        return report_of(accept(text), sections)
     except Refused as refused:
         return refused.line(), 2
 
@@ -63,20 +63,18 @@ def deeply(call, *arguments):
         return pool.submit(call, *arguments).result()
 
 
-def answer_words(words: list[str], read: Callable[[], bytes], calls: bool = False) -> tuple[str, int]:
+def answer_words(words: list[str], read: Callable[[], bytes]) -> tuple[str, int]:
     """What is printed for words, and the exit status; the text is read only where it is asked for."""
     request = read_words(words)
     if request is None:
         return NOT_UNDERSTOOD
     if request.made is not None:
         return summary_of(request.made)
-    return answer(read(), request.sections, calls)
+    return answer(read(), request.sections)
 
 
 def main() -> int:
-    """Answers standard input on standard output; with a first word `--calls`, which is the model's own, texts may have calls."""
-    words = sys.argv[1:]
-    calls = words[:1] == ["--calls"]
-    output, status = deeply(answer_words, words[calls:], sys.stdin.buffer.read, calls)
+    """Answers standard input on standard output."""
+    output, status = deeply(answer_words, sys.argv[1:], sys.stdin.buffer.read)
     sys.stdout.write(output)
     return status

@@ -66,11 +66,11 @@ def run(program: list[str], text: bytes, seconds: float) -> Answer:
     return Answer(done.stdout.decode("latin-1") + done.stderr.decode("latin-1"), done.returncode)
 
 
-def modelled(words: list[str], text: bytes, calls: bool = False) -> Answer:
+def modelled(words: list[str], text: bytes) -> Answer:
     """The model's answer to words and a text; where the model itself breaks down, that is its answer."""
     forget()
     try:
-        return Answer(*answer_words(words, lambda: text, calls))
+        return Answer(*answer_words(words, lambda: text))
     except Exception as trouble:  # pylint: disable=broad-exception-caught
         return Answer(f"the model breaks down: {trouble!r}", 70)
 
@@ -97,12 +97,12 @@ def entries_hold(graph: Graph, evidence: list[str]) -> bool:
     return closed and meet and first[-1] < second[-1]
 
 
-def without_evidence(text: bytes, calls: bool, procedure: int, lines: list[str]) -> list[str]:
+def without_evidence(text: bytes, procedure: int, lines: list[str]) -> list[str]:
     """A control section without its cycle and paths where these hold, since which are shown is free."""
     evidence = [line for line in lines if line.startswith(ENTRIES)]
     if len(evidence) != 3:
         return lines
-    checked = accept(text, calls).procedures
+    checked = accept(text).procedures
     if procedure >= len(checked) or not entries_hold(graph_of(checked[procedure]), evidence):
         return lines
     return [line for line in lines if not line.startswith(ENTRIES)]
@@ -118,7 +118,7 @@ def first_difference(program: list[str], model: list[str]) -> str | None:
     return None
 
 
-def difference(text: bytes, program: Answer, model: Answer, skipped: set[str], calls: bool = False) -> str | None:
+def difference(text: bytes, program: Answer, model: Answer, skipped: set[str]) -> str | None:
     """The first difference of two answers, apart from sections that are skipped; None where there is none."""
     if {2, 6, 70} & {program.status, model.status} or not program.output.startswith("MALPAS "):
         same = program == model
@@ -130,7 +130,7 @@ def difference(text: bytes, program: Answer, model: Answer, skipped: set[str], c
             continue
         sides = [answer.get(key, []) for answer in (theirs, ours)]
         if section == "CONTROL":
-            sides = [without_evidence(text, calls, procedure, side) for side in sides]
+            sides = [without_evidence(text, procedure, side) for side in sides]
         found = first_difference(*sides)
         if found is not None:
             return f"procedure {procedure}, {section or 'head'}: {found}"
@@ -170,10 +170,10 @@ class Comparison:
     def difference_of(self, words: list[str], text: bytes) -> str | None:
         """The difference that a text shows with some words."""
         program = run([*self.program, *words], text, self.options.seconds)
-        model = modelled(words, text, self.options.calls)
+        model = modelled(words, text)
         if program.status == -1:
             return "the program took too long"
-        return difference(text, program, model, self.skipped, self.options.calls)
+        return difference(text, program, model, self.skipped)
 
     def compare(self, name: str, text: bytes) -> None:
         """Compares on one text."""
@@ -192,8 +192,8 @@ class Comparison:
         """Tries the model's own report of a text on every input of its small procedures, and calls against the stack machine."""
         forget()
         try:
-            faults = faults_of(accept(text, self.options.calls), self.options.states)
-            faults += strays_of(written(text, self.options.calls), name, self.options.states)
+            faults = faults_of(accept(text), self.options.states)
+            faults += strays_of(written(text), name, self.options.states)
         except Refused:
             return
         if faults:
@@ -227,7 +227,7 @@ def read_options(words: list[str]) -> argparse.Namespace:
     parser.add_argument("--states", type=int, default=0, help="try the model on all inputs of procedures of so few states")
     parser.add_argument("--words", action="store_true", help="give the program random words with each text")
     parser.add_argument("--all", action="store_true", help="ask for every section that the model has, also the test inputs")
-    parser.add_argument("--calls", action="store_true", help="take texts with calls, for a program that has them")
+    parser.add_argument("--calls", action="store_true", help="invent texts with calls")
     parser.add_argument("--shrink", action="store_true", help="make differing texts as small as possible")
     return parser.parse_args(words)
 

@@ -275,16 +275,14 @@ def read_statement(tokens: list[Token]) -> Statement:
     return statement
 
 
-def statements_of(tokens: list[Token], calls: bool = False) -> list[Statement]:
-    """All statements, or the first that has no form; CALL has one only where calls are asked for."""
+def statements_of(tokens: list[Token]) -> list[Statement]:
+    """All statements, or the first that has no form."""
     statements = []
     start = 0
     for index, token in enumerate(tokens):
         if token.kind != ";":
             continue
         try:
-            if tokens[start].kind == "CALL" and not calls:
-                raise NoForm
             statements.append(read_statement(tokens[start : index + 1]))
         except NoForm:
             raise Refused("E05", tokens[start].place) from None

@@ -1,8 +1,5 @@
 #!/usr/bin/env python3
-"""report.py < TEXT prints what malpas prints for a text, by a second implementation, and ends with the same status.
-
-With --calls as its first word it takes texts with calls too, which malpas refuses still.
-"""
+"""report.py < TEXT prints what malpas prints for a text, by a second implementation, and ends with the same status."""
 
 import sys
 from pathlib import Path

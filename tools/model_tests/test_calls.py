@@ -12,7 +12,7 @@ from typing import Iterator
 
 from model.accepting import accept, written
 from model.calling import calls_of, check_fit, check_sizes
-from model.command import answer, deeply, read_words
+from model.command import answer, deeply
 from model.comparing import Answer, difference
 from model.exhaustive import faults_of
 from model.expanding import expanded
@@ -32,7 +32,7 @@ from model_tests import worked
 from model_tests.call_rows import ROWS
 from model_tests.call_runs import RUNS, Run
 
-TEXTS = Path(__file__).resolve().parent / "texts"
+EXAMPLES = Path(__file__).resolve().parents[2] / "examples"
 TRIED = 300
 """How many random texts are tried."""
 
@@ -60,7 +60,7 @@ KINDS = {
 def refusal_of(text: bytes) -> tuple[str, int, str]:
     """The refusal of a text with calls: its code, its byte, and its name or limit."""
     try:
-        accept(text, True)
+        accept(text)
     except Refused as refused:
         return refused.code, refused.place, refused.detail
     return "", 0, ""
@@ -83,7 +83,7 @@ def invented() -> list[Invented]:
     for seed in range(TRIED):
         text = invented_calls(seed)
         try:
-            checked = written(text, True)
+            checked = written(text)
         except Refused:
             continue
         found.append(Invented(f"text {seed}", text, checked, expanded(checked)))
@@ -99,21 +99,13 @@ class Refusals(unittest.TestCase):
             with self.subTest(row.words):
                 self.assertEqual(deeply(refusal_of, row.text.encode("ascii")), (row.code, row.place, row.detail))
 
-    def test_without_calls(self) -> None:
-        """CALL has no form where calls are not asked for, and is no word of the program."""
-        for row in ROWS:
-            if row.code not in ("E05", "E06", "E07") and len(row.text) < 1000 and "CALL " in row.text:
-                place = row.text.index("CALL ")
-                self.assertEqual(answer(row.text.encode("ascii")), (f"malpas: E05 at byte {place}: statement has no form\n", 2))
-        self.assertIsNone(read_words(["--calls"]))
-
     def test_lines(self) -> None:
         """The lines that are written for refusals."""
         called = worked.COPY.replace(b"d := a;", b"CALL q;")
-        self.assertEqual(answer(called, calls=True), ("malpas: E09 at byte 108: name unknown: q\n", 2))
+        self.assertEqual(answer(called), ("malpas: E09 at byte 108: name unknown: q\n", 2))
         for call in (b"CALL p (x);", b"CALL inc;"):
             text = worked.CALL_INC.replace(b"CALL inc (x);", call)
-            self.assertEqual(answer(text, calls=True), ("malpas: E16 at byte 137: call does not fit\n", 2))
+            self.assertEqual(answer(text), ("malpas: E16 at byte 137: call does not fit\n", 2))
 
     def test_slips(self) -> None:
         """Every text with slips, and every text at a limit, has an answer."""
@@ -147,12 +139,12 @@ class Refusals(unittest.TestCase):
         for text in [*(one.text for one in invented()[:100]), *(strained(seed, True) for seed in range(30))]:
             if refusal_of(text)[0]:
                 continue
-            statements = statements_of(tokens_of(text), True)
+            statements = statements_of(tokens_of(text))
             calls = calls_of(statements)
             check_sizes(statements, calls)
             check_fit(statements, calls)
             counted = [(shape.lines, shape.places, shape.longest) for shape in calls.shapes.values()]
-            self.assertEqual(counted, [sizes_of(procedure) for procedure in accept(text, True).procedures])
+            self.assertEqual(counted, [sizes_of(procedure) for procedure in accept(text).procedures])
 
 
 def sizes_of(procedure: CheckedProcedure) -> tuple[int, int, int]:
@@ -165,7 +157,7 @@ class Expansions(unittest.TestCase):
 
     def test_worked(self) -> None:
         """The places, lines, origins and spans of a procedure with one call."""
-        found = accept(worked.CALL_INC, True).procedures[1]
+        found = accept(worked.CALL_INC).procedures[1]
         places = [(place.text(), place.mode, place.least, place.greatest) for place in found.places]
         self.assertEqual(places, worked.CALL_INC_PLACES)
         self.assertEqual([(line.form, line.place) for line in found.lines], worked.CALL_INC_LINES)
@@ -174,7 +166,7 @@ class Expansions(unittest.TestCase):
 
     def test_names(self) -> None:
         """Places of calls in calls stand call by call, before the OLD copies of the procedure that is called."""
-        found = accept(worked.CALL_OUTER, True).procedures[2]
+        found = accept(worked.CALL_OUTER).procedures[2]
         self.assertEqual([place.text() for place in found.places], worked.CALL_OUTER_PLACES)
         self.assertEqual(found.spans, [Span(1, 6, "inc"), Span(7, 18, "outer")])
         self.assertEqual([place.wrap for place in found.places if "v" in place.name], [True] * 4)
@@ -197,31 +189,30 @@ class Expansions(unittest.TestCase):
 
     def test_own_lines(self) -> None:
         """A text without calls is its own expansion."""
-        found = accept(worked.SUM, True).procedures[0]
+        found = accept(worked.SUM).procedures[0]
         self.assertEqual((found.spans, found.origins), ([], [Origin(0, line) for line in range(len(found.lines))]))
-        self.assertEqual(answer(worked.SUM, calls=True), answer(worked.SUM))
 
     def test_report(self) -> None:
         """The lines of the calls stand before the sections, and the report is that of the expansion."""
-        output, status = answer(worked.CALL_INC, calls=True)
+        output, status = answer(worked.CALL_INC)
         self.assertEqual(status, 1)
         for part in worked.CALL_INC_PARTS:
             self.assertIn("\n" + part, output)
 
     def test_example(self) -> None:
         """The report of a text with three calls."""
-        text = (TEXTS / "voted_trip.mal").read_bytes()
-        self.assertEqual(answer(text, calls=True), ((TEXTS / "voted_trip.report").read_text("ascii"), 0))
+        text = (EXAMPLES / "voted_trip.mal").read_bytes()
+        self.assertEqual(answer(text), ((EXAMPLES / "voted_trip.report").read_text("ascii"), 0))
 
     def test_two_entries(self) -> None:
         """A loop with two entries in a called procedure is told in the caller too, and which paths are shown is free."""
-        output, status = answer(worked.CALL_TWO_ENTRIES, calls=True)
+        output, status = answer(worked.CALL_TWO_ENTRIES)
         self.assertIn("\nPROCEDURE q LINES 15\nEXPANDED L1 L13 p\nCONTROL\n", output)
         self.assertEqual(output.count("SHAPE TWO ENTRIES"), 2)
         same = Answer(output, status)
-        self.assertIsNone(difference(worked.CALL_TWO_ENTRIES, same, same, set(), True))
+        self.assertIsNone(difference(worked.CALL_TWO_ENTRIES, same, same, set()))
         other = Answer(output.replace("EXPANDED L1 L13", "EXPANDED L1 L12"), status)
-        self.assertIsNotNone(difference(worked.CALL_TWO_ENTRIES, other, same, set(), True))
+        self.assertIsNotNone(difference(worked.CALL_TWO_ENTRIES, other, same, set()))
 
 
 class Runs(unittest.TestCase):
@@ -229,7 +220,7 @@ class Runs(unittest.TestCase):
 
     def assert_run(self, one: Run) -> None:
         """The stack machine halts as it is said, and the expansion runs alike from any values of the places that it brings."""
-        text = written(one.text.encode("ascii"), True)
+        text = written(one.text.encode("ascii"))
         number = len(text.procedures) - 1
         stack, halt = run(text, number, one.start)
         self.assertEqual(halt, Halt(one.halt, None if one.at is None else Origin(*one.at)))
@@ -281,7 +272,7 @@ class Runs(unittest.TestCase):
         """Every input of small expanded procedures takes one row, and stepping gives its stop and values."""
         for seed in range(40):
             with self.subTest(seed):
-                self.assertEqual(faults_of(accept(invented_calls(seed), True), 300), [])
+                self.assertEqual(faults_of(accept(invented_calls(seed)), 300), [])
 
     def test_wrong_expansions(self) -> None:
         """An expansion with one kind of fault strays from the stack machine."""

@@ -177,7 +177,7 @@ VALUES = [
 CHANGES = [
     (b"d := a;", b"d #= a;", "E03 at byte 110"),
     (b"d := a;", b"d := a < b < c;", "E05 at byte 108"),
-    (b"d := a;", b"CALL q;", "E05 at byte 108"),
+    (b"d := a;", b"CALL q;", "E09 at byte 108"),
     (b"d := a;", b"ENDIF;", "E07 at byte 108"),
     (b"LOCAL d : 0 .. 9;", b"LOCAL a : 0 .. 9;", "E08 at byte 69"),
     (b"d := a;", b"d := e;", "E09 at byte 108"),
