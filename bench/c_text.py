@@ -147,6 +147,8 @@ class Translator:
             self.out.append(f"goto l_{it.name};" if it.form == "GOTO" else f"l_{it.name}: ;")
         elif it.form in simple:
             self.out.append(simple[it.form])
+        elif it.form == "CALL":
+            raise ValueError("a text with calls is not written as C")
 
     def translate(self):
         """Returns for each procedure its C name and a file of its own."""

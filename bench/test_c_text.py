@@ -32,7 +32,9 @@ def procedures(text):
 
 
 def examples():
-    return [(it.stem, it.read_bytes()) for it in sorted((TOP / "examples").glob("*.mal")) if it.stem != "refused"]
+    """The examples that are accepted and call nothing."""
+    texts = [(it.stem, it.read_bytes()) for it in sorted((TOP / "examples").glob("*.mal")) if it.stem != "refused"]
+    return [(name, text) for name, text in texts if b"CALL" not in text]
 
 
 def inputs(choice, procedure, text, number):
@@ -105,6 +107,10 @@ class Translation(unittest.TestCase):
             for c_name, source in Translator(text).translate():
                 with self.subTest(text=name, procedure=c_name):
                     self.assertEqual(compiled(self.room, c_name, source, "-c")[1], "")
+
+    def test_calls_are_not_translated(self):
+        text = (TOP / "examples" / "voted_trip.mal").read_bytes()
+        self.assertRaises(ValueError, Translator(text).translate)
 
     def test_runs_of_the_examples(self):
         for name, text in examples():

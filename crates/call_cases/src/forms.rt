@@ -1,144 +1,144 @@
 //! The forms of CALL, and where it may stand.
-use crate::rows::{GET, INC, NIL, Row, SEE, TWO, X, Y, are_answered};
+use crate::rows::is_answered;
 use il_core::Code;
 use std::test::Fail;
 
 #[test]
 fn calls_have_two_forms(rt: HostRuntime) -> Result<(), Fail> {
-    let rows: [Row; 27] = [
+    let rows = [
         // a call without arguments
-        (&[NIL], &[], "CALL nil;", &[], None),
+        (
+            "TITLE t;PROC nil;PRE TRUE;POST TRUE;ENDPROC;PROC p;PRE TRUE;POST TRUE;CALL nil;ENDPROC;FINISH;",
+            None,
+        ),
         // a call with one argument
-        (&[INC], &[X], "CALL inc (x);", &[], None),
+        (
+            "TITLE t;PROC inc;INOUT v : 0 .. 9;PRE v <= 8;POST v = OLD v + 1;v := v + 1;ENDPROC;PROC p;INOUT x : 0 .. 9;PRE TRUE;POST TRUE;CALL inc (x);ENDPROC;FINISH;",
+            None,
+        ),
         // a call with several arguments, over white space and comments
-        (&[GET], &[X], "CALL get\n( 1 [ in ] , x );", &[], None),
+        (
+            "TITLE t;PROC get;IN i : 0 .. 9;OUT o : 0 .. 9;LOCAL l : 0 .. 9;PRE TRUE;POST TRUE;l := i;o := l;ENDPROC;PROC p;INOUT x : 0 .. 9;PRE TRUE;POST TRUE;CALL get\n( 1 [ in ] , x );ENDPROC;FINISH;",
+            None,
+        ),
         // no name
-        (&[NIL], &[], "^CALL;", &[], Some((Code::Syntax, ""))),
+        (
+            "TITLE t;PROC nil;PRE TRUE;POST TRUE;ENDPROC;PROC p;PRE TRUE;POST TRUE;^CALL;ENDPROC;FINISH;",
+            Some((Code::Syntax, "")),
+        ),
         // a number in place of a name
-        (&[NIL], &[], "^CALL 3;", &[], Some((Code::Syntax, ""))),
+        (
+            "TITLE t;PROC nil;PRE TRUE;POST TRUE;ENDPROC;PROC p;PRE TRUE;POST TRUE;^CALL 3;ENDPROC;FINISH;",
+            Some((Code::Syntax, "")),
+        ),
         // a keyword in place of a name
-        (&[NIL], &[], "^CALL IF;", &[], Some((Code::Syntax, ""))),
+        (
+            "TITLE t;PROC nil;PRE TRUE;POST TRUE;ENDPROC;PROC p;PRE TRUE;POST TRUE;^CALL IF;ENDPROC;FINISH;",
+            Some((Code::Syntax, "")),
+        ),
         // arguments in place of a name
-        (&[INC], &[X], "^CALL (x);", &[], Some((Code::Syntax, ""))),
+        (
+            "TITLE t;PROC inc;INOUT v : 0 .. 9;PRE v <= 8;POST v = OLD v + 1;v := v + 1;ENDPROC;PROC p;INOUT x : 0 .. 9;PRE TRUE;POST TRUE;^CALL (x);ENDPROC;FINISH;",
+            Some((Code::Syntax, "")),
+        ),
         // empty parentheses
-        (&[NIL], &[], "^CALL nil ();", &[], Some((Code::Syntax, ""))),
+        (
+            "TITLE t;PROC nil;PRE TRUE;POST TRUE;ENDPROC;PROC p;PRE TRUE;POST TRUE;^CALL nil ();ENDPROC;FINISH;",
+            Some((Code::Syntax, "")),
+        ),
         // no parentheses
-        (&[INC], &[X], "^CALL inc x;", &[], Some((Code::Syntax, ""))),
+        (
+            "TITLE t;PROC inc;INOUT v : 0 .. 9;PRE v <= 8;POST v = OLD v + 1;v := v + 1;ENDPROC;PROC p;INOUT x : 0 .. 9;PRE TRUE;POST TRUE;^CALL inc x;ENDPROC;FINISH;",
+            Some((Code::Syntax, "")),
+        ),
         // a comma too many behind
         (
-            &[INC],
-            &[X],
-            "^CALL inc (x,);",
-            &[],
+            "TITLE t;PROC inc;INOUT v : 0 .. 9;PRE v <= 8;POST v = OLD v + 1;v := v + 1;ENDPROC;PROC p;INOUT x : 0 .. 9;PRE TRUE;POST TRUE;^CALL inc (x,);ENDPROC;FINISH;",
             Some((Code::Syntax, "")),
         ),
         // a comma too many in front
         (
-            &[INC],
-            &[X],
-            "^CALL inc (, x);",
-            &[],
+            "TITLE t;PROC inc;INOUT v : 0 .. 9;PRE v <= 8;POST v = OLD v + 1;v := v + 1;ENDPROC;PROC p;INOUT x : 0 .. 9;PRE TRUE;POST TRUE;^CALL inc (, x);ENDPROC;FINISH;",
             Some((Code::Syntax, "")),
         ),
         // no comma
         (
-            &[TWO],
-            &[X, Y],
-            "^CALL two (x y);",
-            &[],
+            "TITLE t;PROC two;INOUT v : 0 .. 9;OUT w : 0 .. 9;PRE TRUE;POST TRUE;w := v;ENDPROC;PROC p;INOUT x : 0 .. 9;INOUT y : 0 .. 9;PRE TRUE;POST TRUE;^CALL two (x y);ENDPROC;FINISH;",
             Some((Code::Syntax, "")),
         ),
         // parentheses that are not closed
-        (&[INC], &[X], "^CALL inc (x;", &[], Some((Code::Syntax, ""))),
+        (
+            "TITLE t;PROC inc;INOUT v : 0 .. 9;PRE v <= 8;POST v = OLD v + 1;v := v + 1;ENDPROC;PROC p;INOUT x : 0 .. 9;PRE TRUE;POST TRUE;^CALL inc (x;ENDPROC;FINISH;",
+            Some((Code::Syntax, "")),
+        ),
         // two lists
         (
-            &[INC],
-            &[X],
-            "^CALL inc (x) (x);",
-            &[],
+            "TITLE t;PROC inc;INOUT v : 0 .. 9;PRE v <= 8;POST v = OLD v + 1;v := v + 1;ENDPROC;PROC p;INOUT x : 0 .. 9;PRE TRUE;POST TRUE;^CALL inc (x) (x);ENDPROC;FINISH;",
             Some((Code::Syntax, "")),
         ),
         // a mode in the list
         (
-            &[INC],
-            &[X],
-            "^CALL inc (INOUT x);",
-            &[],
+            "TITLE t;PROC inc;INOUT v : 0 .. 9;PRE v <= 8;POST v = OLD v + 1;v := v + 1;ENDPROC;PROC p;INOUT x : 0 .. 9;PRE TRUE;POST TRUE;^CALL inc (INOUT x);ENDPROC;FINISH;",
             Some((Code::Syntax, "")),
         ),
         // a name without CALL
-        (&[INC], &[X], "^inc (x);", &[], Some((Code::Syntax, ""))),
-        // an argument that chains comparisons
         (
-            &[SEE],
-            &[X],
-            "^CALL see (1 < 2 < 3, 4);",
-            &[],
+            "TITLE t;PROC inc;INOUT v : 0 .. 9;PRE v <= 8;POST v = OLD v + 1;v := v + 1;ENDPROC;PROC p;INOUT x : 0 .. 9;PRE TRUE;POST TRUE;^inc (x);ENDPROC;FINISH;",
             Some((Code::Syntax, "")),
         ),
-        // arguments of depth 200, each measured alone
+        // an argument that chains comparisons
         (
-            &[SEE],
-            &[],
-            "CALL see ((((((((((((((((((((((((((((((((((((((((((((((((((((((((((((((((((((((((((((((((((((((((((((((((((((((((((((((((((((((((((((((((((((((((((((((((((((((((((((((((((((((((((((((((((((((((((((((((((((((((1))))))))))))))))))))))))))))))))))))))))))))))))))))))))))))))))))))))))))))))))))))))))))))))))))))))))))))))))))))))))))))))))))))))))))))))))))))))))))))))))))))))))))))))))))))))))))))))))))))))), (((((((((((((((((((((((((((((((((((((((((((((((((((((((((((((((((((((((((((((((((((((((((((((((((((((((((((((((((((((((((((((((((((((((((((((((((((((((((((((((((((((((((((((((((((((((((((((((((((((((2))))))))))))))))))))))))))))))))))))))))))))))))))))))))))))))))))))))))))))))))))))))))))))))))))))))))))))))))))))))))))))))))))))))))))))))))))))))))))))))))))))))))))))))))))))))))))))))))))))))));",
-            &[],
-            None,
+            "TITLE t;PROC see;IN i : 0 .. 9;IN j : 0 .. 9;PRE TRUE;POST TRUE;ENDPROC;PROC p;INOUT x : 0 .. 9;PRE TRUE;POST TRUE;^CALL see (1 < 2 < 3, 4);ENDPROC;FINISH;",
+            Some((Code::Syntax, "")),
         ),
         // an argument of depth 201
         (
-            &[SEE],
-            &[],
-            "^CALL see (1, ((((((((((((((((((((((((((((((((((((((((((((((((((((((((((((((((((((((((((((((((((((((((((((((((((((((((((((((((((((((((((((((((((((((((((((((((((((((((((((((((((((((((((((((((((((((((((((((((((((((((2)))))))))))))))))))))))))))))))))))))))))))))))))))))))))))))))))))))))))))))))))))))))))))))))))))))))))))))))))))))))))))))))))))))))))))))))))))))))))))))))))))))))))))))))))))))))))))))))))))))))));",
-            &[],
+            "TITLE t;PROC see;IN i : 0 .. 9;IN j : 0 .. 9;PRE TRUE;POST TRUE;ENDPROC;PROC p;PRE TRUE;POST TRUE;^CALL see (1, ((((((((((((((((((((((((((((((((((((((((((((((((((((((((((((((((((((((((((((((((((((((((((((((((((((((((((((((((((((((((((((((((((((((((((((((((((((((((((((((((((((((((((((((((((((((((((((((((((((((((2)))))))))))))))))))))))))))))))))))))))))))))))))))))))))))))))))))))))))))))))))))))))))))))))))))))))))))))))))))))))))))))))))))))))))))))))))))))))))))))))))))))))))))))))))))))))))))))))))))))))));ENDPROC;FINISH;",
             Some((Code::Syntax, "")),
         ),
         // a call before the procedures
-        (&["^CALL p;"], &[], "", &[], Some((Code::Order, ""))),
+        (
+            "TITLE t;^CALL p;PROC p;PRE TRUE;POST TRUE;ENDPROC;FINISH;",
+            Some((Code::Order, "")),
+        ),
         // a call between procedures
-        (&[NIL, "^CALL nil;"], &[], "", &[], Some((Code::Order, ""))),
+        (
+            "TITLE t;PROC nil;PRE TRUE;POST TRUE;ENDPROC;^CALL nil;PROC p;PRE TRUE;POST TRUE;ENDPROC;FINISH;",
+            Some((Code::Order, "")),
+        ),
         // a call between variables
         (
-            &[INC],
-            &[X, "^CALL inc (x);", Y],
-            "",
-            &[],
+            "TITLE t;PROC inc;INOUT v : 0 .. 9;PRE v <= 8;POST v = OLD v + 1;v := v + 1;ENDPROC;PROC p;INOUT x : 0 .. 9;^CALL inc (x);INOUT y : 0 .. 9;PRE TRUE;POST TRUE;ENDPROC;FINISH;",
             Some((Code::Order, "")),
         ),
         // a variable behind a call
         (
-            &[INC],
-            &[X],
-            "CALL inc (x);^LOCAL z : BOOL;",
-            &[],
+            "TITLE t;PROC inc;INOUT v : 0 .. 9;PRE v <= 8;POST v = OLD v + 1;v := v + 1;ENDPROC;PROC p;INOUT x : 0 .. 9;PRE TRUE;POST TRUE;CALL inc (x);^LOCAL z : BOOL;ENDPROC;FINISH;",
             Some((Code::Order, "")),
         ),
         // calls in tests and loops
         (
-            &[INC],
-            &[X],
-            "IF x = 1;CALL inc (x);ELSE;LOOP;CALL inc (x);EXIT;ENDLOOP;ENDIF;",
-            &[],
+            "TITLE t;PROC inc;INOUT v : 0 .. 9;PRE v <= 8;POST v = OLD v + 1;v := v + 1;ENDPROC;PROC p;INOUT x : 0 .. 9;PRE TRUE;POST TRUE;IF x = 1;CALL inc (x);ELSE;LOOP;CALL inc (x);EXIT;ENDLOOP;ENDIF;ENDPROC;FINISH;",
             None,
         ),
         // a call opens no block
         (
-            &[INC],
-            &[X],
-            "CALL inc (x);^ENDIF;",
-            &[],
+            "TITLE t;PROC inc;INOUT v : 0 .. 9;PRE v <= 8;POST v = OLD v + 1;v := v + 1;ENDPROC;PROC p;INOUT x : 0 .. 9;PRE TRUE;POST TRUE;CALL inc (x);^ENDIF;ENDPROC;FINISH;",
             Some((Code::Unmatched, "")),
         ),
         // a procedure is no label
         (
-            &[NIL],
-            &[],
-            "CALL nil;^GOTO nil;",
-            &[],
+            "TITLE t;PROC nil;PRE TRUE;POST TRUE;ENDPROC;PROC p;PRE TRUE;POST TRUE;CALL nil;^GOTO nil;ENDPROC;FINISH;",
             Some((Code::Unmatched, "")),
         ),
         // a label with the name of the procedure called
-        (&[NIL], &[], "GOTO nil;LABEL nil;CALL nil;", &[], None),
+        (
+            "TITLE t;PROC nil;PRE TRUE;POST TRUE;ENDPROC;PROC p;PRE TRUE;POST TRUE;GOTO nil;LABEL nil;CALL nil;ENDPROC;FINISH;",
+            None,
+        ),
     ];
-    assert!(rt; are_answered(rt.alloc(), &rows)?);
+    for (text, wanted) in rows {
+        assert!(rt; is_answered(rt.alloc(), text, wanted)?, "{text}");
+    }
     Ok(())
 }

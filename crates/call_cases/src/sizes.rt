@@ -1,5 +1,5 @@
 //! Limits that calls reach and pass, in texts that are built.
-use crate::rows::{Row, X, is_answered};
+use crate::rows::is_answered;
 use il_core::{Code, Many};
 use std::alloc::Global;
 use std::test::Fail;
@@ -17,15 +17,16 @@ fn skips(alloc: Global, name: &str, variables: &str, lines: usize) -> Result<Str
 #[test]
 fn calls_count_as_their_expansions(rt: HostRuntime) -> Result<(), Fail> {
     let lines = Some((Code::TooMany(Many::Lines), ""));
-    // the variables and the lines of a procedure `a`, those of the caller with its body, and the answer
+    let x = "INOUT x : 0 .. 9;";
+    // the variables and the lines of a procedure `a`, the variables of the caller and its body, and the answer
     let cases = [
         // what `a` is and a call of it: 1,000 lines
         ("", 998, "", "CALL a;", None),
         ("", 999, "", "CALL a;^", lines),
         ("", 1000, "", "^CALL a;", lines),
         // values in and out, and an OLD copy
-        ("INOUT v : 0 .. 9;", 995, X, "CALL a (x);", None),
-        ("INOUT v : 0 .. 9;", 996, X, "CALL a (x);^", lines),
+        ("INOUT v : 0 .. 9;", 995, x, "CALL a (x);", None),
+        ("INOUT v : 0 .. 9;", 996, x, "CALL a (x);^", lines),
         (
             "IN v : 0 .. 9;LOCAL w : BOOL;",
             996,
@@ -40,17 +41,22 @@ fn calls_count_as_their_expansions(rt: HostRuntime) -> Result<(), Fail> {
             "CALL a (1);^",
             lines,
         ),
-        ("OUT v : 0 .. 9;", 996, X, "CALL a (x);", None),
-        ("OUT v : 0 .. 9;", 997, X, "CALL a (x);^", lines),
+        ("OUT v : 0 .. 9;", 996, x, "CALL a (x);", None),
+        ("OUT v : 0 .. 9;", 997, x, "CALL a (x);^", lines),
         // the second call passes the limit
         ("", 500, "", "CALL a;^CALL a;", lines),
         // lines that a call which does not fit counts as
-        ("INOUT v : 0 .. 9;", 1000, X, "^CALL a;", lines),
+        ("INOUT v : 0 .. 9;", 1000, x, "^CALL a;", lines),
     ];
     for (declared, count, variables, body, wanted) in cases {
         let called = skips(rt.alloc(), "a", declared, count)?;
-        let row: Row = (&[called.as_str()], &[variables], body, &[], wanted);
-        assert!(rt; is_answered(rt.alloc(), &row)?, "{declared} {count} {body}");
+        let text = format!(in rt.alloc();
+            "TITLE t;{called}PROC p;{variables}PRE TRUE;POST TRUE;{body}ENDPROC;FINISH;"
+        )?;
+        assert!(rt;
+            is_answered(rt.alloc(), text.as_str(), wanted)?,
+            "{declared} {count} {body}"
+        );
     }
     Ok(())
 }
@@ -58,17 +64,15 @@ fn calls_count_as_their_expansions(rt: HostRuntime) -> Result<(), Fail> {
 #[test]
 fn calls_of_calls_count_too(rt: HostRuntime) -> Result<(), Fail> {
     let called = skips(rt.alloc(), "a", "", 499)?;
-    let calling = "PROC c;PRE TRUE;POST TRUE;CALL a;ENDPROC;";
-    let lines = Some((Code::TooMany(Many::Lines), ""));
-    let row: Row = (
-        &[called.as_str(), calling],
-        &[],
-        "CALL a;^CALL c;",
-        &[],
-        lines,
-    );
-    assert!(rt; is_answered(rt.alloc(), &row)?);
-    let fewer: Row = (&[called.as_str(), calling], &[], "CALL a;", &[], None);
-    assert!(rt; is_answered(rt.alloc(), &fewer)?);
+    let cases = [
+        ("CALL a;^CALL c;", Some((Code::TooMany(Many::Lines), ""))),
+        ("CALL a;", None),
+    ];
+    for (body, wanted) in cases {
+        let text = format!(in rt.alloc();
+            "TITLE t;{called}PROC c;PRE TRUE;POST TRUE;CALL a;ENDPROC;PROC p;PRE TRUE;POST TRUE;{body}ENDPROC;FINISH;"
+        )?;
+        assert!(rt; is_answered(rt.alloc(), text.as_str(), wanted)?, "{body}");
+    }
     Ok(())
 }
