@@ -135,7 +135,7 @@ class Slips(unittest.TestCase):
         self.assertEqual(found.faults and found.faults.given_up, "no more than 20 faults are told")
 
     def test_call_that_does_not_fit(self) -> None:
-        """The hint at a call tells the parameters; malpas has no such refusal yet, so its line stands here."""
+        """The hint at a call tells the parameters."""
         text = (
             "TITLE t;\nPROC inc;\nIN by : 0 .. 9;\nINOUT v : 0 .. 9;\nLOCAL w : BOOL;\nPRE TRUE;\nPOST TRUE;\nENDPROC;\n"
             "PROC p;\nINOUT x : 0 .. 5;\nPRE TRUE;\nPOST TRUE;\nCALL inc (x);\nENDPROC;\nFINISH;\n"
